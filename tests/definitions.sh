@@ -22,7 +22,7 @@ refused() {
 }
 
 refused 's/ × IsUnambiguous t$//'
-refused 's/Dots 89/Dots 90/'
+refused 's/Dots 88/Dots 89/'
 refused 's/, Text [0-9]*//'
 refused '/specs\/` | Escapes/d'
 refused 's/^| together | [0-9]* files/| together | 1 files/'

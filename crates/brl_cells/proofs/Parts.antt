@@ -1,14 +1,12 @@
 -- Reading cells, one after the other.
-use Rattle.std.proofs.Common.{◌≡◌, ℕ, suc, ◌+◌, ◌<◌, ◌≤◌, leb, eqb, cond, true, false, List, [], ◌∷◌, ◌++◌, length, drop, get_or, Result, Ok, Err, append_assoc, refl, sym, ap, subst, ◌∙◌, inl, inr, arith}
+use Rattle.std.proofs.Common.{◌≡◌, ℕ, suc, ◌+◌, ◌<◌, ◌≤◌, leb, eqb, cond, true, false, List, [], ◌∷◌, ◌++◌, length, drop, get_or, Result, Ok, Err, append_assoc, refl, sym, ap, subst, ◌∙◌, inl, inr, arith, drop_of_length-le, MatchResult, IsErrAnd}
 use Rattle.std.proofs.lemmas.Bool.Decides.{nat_tests}
 use Rattle.std.proofs.lemmas.List.{append-nil, drop_more}
-use Rattle.std.proofs.Math.ListN.{drop_of_length-le}
 use Rattle.std.proofs.lemmas.Bool.{cases_lt}
 use Rattle.std.proofs.lemmas.List.Splits.{length-slice_split}
 use Rattle.brl_cells.specs.declared.fault.DotsFault.{DotsFault}
 use Rattle.brl_cells.specs.declared.fault.DotsFault.TheVariants.{TooManyCells}
 use Rattle.brl_cells.specs.Dots.{cell_reading, cells_reading, parts, reading}
-use Rattle.std.specs.Prelude.{MatchResult, IsErrAnd}
 use Rattle.brl_failure.specs.Failure.{◌>>=◌, IfFault}
 use Rattle.brl_failure.specs.declared.failure.Failure.{Failure}
 use Rattle.brl_failure.specs.declared.failure.Failure.TheVariants as failures
@@ -31,10 +29,6 @@ abbrev pub behind : List ℕ → Result (List ℕ) DotsFault → Result (List �
 behind front (Ok cells) = Ok (front ++ cells)
 behind front (Err fault) = Err fault
 
-behind-none : (read : Result (List ℕ) DotsFault) → behind [] read ≡ read
-behind-none (Ok cells) = refl
-behind-none (Err fault) = refl
-
 behind-push : (front : List ℕ) (cell : ℕ) (read : Result (List ℕ) DotsFault) → behind front (before_cells (Ok cell) read) ≡ behind (front ++ cell ∷ []) read
 behind-push front cell (Ok cells) = ap (λ (cs : List ℕ). Ok cs) (sym (append_assoc front (cell ∷ []) cells))
 behind-push front cell (Err fault) = refl
@@ -42,9 +36,6 @@ behind-push front cell (Err fault) = refl
 -- the cells of the parts before this place are read
 pub record PartsSoFar (pieces : List (List ℕ)) (place : ℕ) (front : List ℕ) : Type 0 where
   pub rest : behind front (cells_reading (drop place pieces)) ≡ cells_reading pieces
-
-pub parts_none : (pieces : List (List ℕ)) → PartsSoFar pieces 0 []
-parts_none pieces = record { rest = behind-none (cells_reading pieces) }
 
 module _ (pieces : List (List ℕ)) (place : ℕ) (front piece : List ℕ) (lt : place < length pieces) (at : piece ≡ get_or pieces place piece) (so_far : PartsSoFar pieces place front) where
   from_here : cells_reading pieces ≡ behind front (before_cells (cell_reading piece) (cells_reading (drop (place + 1) pieces)))

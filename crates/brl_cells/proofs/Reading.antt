@@ -1,6 +1,6 @@
 -- Reading a cell mark by mark.
-use Rattle.std.proofs.Common.{◌≡◌, ◌≢◌, ℕ, ◌+◌, ◌-◌, ◌*◌, ◌%◌, ◌^◌, ◌<◌, ◌≤◌, Bool, true, false, ◌||◌, ◌&&◌, leb, ltb, eqb, List, [], ◌∷◌, ◌++◌, length, take, drop, get_or, take_all, Option, Some, None, Ok, Err, bit_and, bit_or, w8, refl, sym, ap, subst, ◌∙◌, inl, inr, arith}
-use Rattle.std.proofs.Math.ListN.{drop_of_length-le}
+use Rattle.std.proofs.Common.{◌≡◌, ◌≢◌, ℕ, ◌+◌, ◌-◌, ◌*◌, ◌%◌, ◌^◌, ◌<◌, ◌≤◌, Bool, true, false, ◌||◌, eqb, List, [], ◌∷◌, ◌++◌, length, take, drop, get_or, Some, bit_and, bit_or, w8, refl, sym, ap, subst, ◌∙◌, inl, inr, arith}
+use Rattle.std.proofs.lemmas.Grind.{common_steps}
 use Rattle.std.specs.Int.{bit_at}
 use Rattle.std.specs.Cmp.{first_so, second_so}
 use Rattle.std.specs.List.{sum_by, list_all}
@@ -9,12 +9,9 @@ use Rattle.std.proofs.lemmas.Bool.Decides.{Decides-eqb, nat_tests}
 use Rattle.std.proofs.lemmas.List.Folds.{list_any-append, list_any_at}
 use Rattle.std.proofs.lemmas.List.Sums.{sum_by-append}
 use Rattle.std.proofs.lemmas.Nat.{or_disjoint}
-use Rattle.std.proofs.lemmas.Nat.Bits.{bit_at_set_same, bit_at_set_other, bit_at-lt, bit_at-zero, and_pow}
-use Rattle.brl_cells.specs.Dots.{dot_marks, dot_number, has_dot, is_among, first_fault, unless_fault, cell_reading}
+use Rattle.std.proofs.lemmas.Nat.Bits.{bit_at_set_same, bit_at_set_other, bit_at-lt, and_pow}
+use Rattle.brl_cells.specs.Dots.{dot_marks, dot_number, has_dot, is_among, first_fault}
 use Rattle.brl_cells.specs.declared.fault.DotsFault.TheVariants.{BadDot, RepeatedDot}
-use Rattle.brl_cells.specs.declared.fault.DotsFault.{DotsFault}
-use Rattle.std.specs.Prelude.{codes}
-use Rattle.std.specs.Str.{bytes_eq}
 use Rattle.std.proofs.lemmas.List.{take_more, drop_more}
 
 -- a test that all these marks pass is passed by one of them
@@ -28,11 +25,7 @@ of_each test (m ∷ marks) all mark is =
 
 -- a digit from 1 to 8
 pub dot_bounds : (mark : ℕ) → is_among dot_marks mark ≡ true → (49 ≤ mark) × (mark < 57)
-dot_bounds mark is =
-    let h : leb 49 mark && ltb mark 57 ≡ true = of_each (λ m. leb 49 m && ltb m 57) dot_marks refl mark is in
-    let low : leb 49 mark ≡ true = first_so (leb 49 mark) (ltb mark 57) h in
-    let high : ltb mark 57 ≡ true = second_so (leb 49 mark) (ltb mark 57) h in
-    (grind (arith, nat_tests), grind (arith, nat_tests))
+dot_bounds mark is = grind (arith, common_steps)
 
 -- each dot mark is one
 pub dot_at : (place : ℕ) → place < 8 → is_among dot_marks (get_or dot_marks place 0) ≡ true
@@ -40,8 +33,7 @@ dot_at place lt = list_any_at (λ m. eqb m (get_or dot_marks place 0)) dot_marks
 
 -- the number of a dot as `1 << place` computes it
 pub dot_shifted : (mark : ℕ) → is_among dot_marks mark ≡ true → 1 * 2 ^ (mark - 49) % 256 ≡ dot_number mark
-dot_shifted mark is =
-    (Decides-eqb (1 * 2 ^ (mark - 49) % 256) (dot_number mark)).0 (of_each (λ m. eqb (1 * 2 ^ (m - 49) % 256) (dot_number m)) dot_marks refl mark is)
+dot_shifted mark is = grind (arith, common_steps)
 
 -- a cell has the dots of these marks, and no others
 pub record HasDots (cell : ℕ) (marks : List ℕ) : Type 0 where
@@ -111,10 +103,7 @@ pub record ReadSoFar (marks : List ℕ) (place cell : ℕ) : Type 0 where
   pub has : HasDots cell (take place marks)
 
 pub read_none : (marks : List ℕ) → ReadSoFar marks 0 0
-read_none marks = record { fault = refl; has = record { sum = refl; dots = λ mark is. none mark is } }
-  where
-    none : (mark : ℕ) → is_among dot_marks mark ≡ true → has_dot 0 mark ≡ false
-    none mark is = rw (bit_at-zero (mark - 49)) refl
+read_none marks = grind (arith, common_steps)
 
 -- the first fault is that of the marks from this place on
 from_here : (marks : List ℕ) (place cell : ℕ) → place < length marks → ReadSoFar marks place cell → first_fault [] marks ≡ first_fault (take place marks) (get_or marks place 0 ∷ drop (place + 1) marks)
@@ -130,27 +119,3 @@ read_more marks place cell mark lt at is unset so_far =
       fault = ap (λ (ms : List ℕ). first_fault ms (drop (place + 1) marks)) more ∙ sym (no_fault (take place marks) (drop (place + 1) marks) mark is new) ∙ sym here;
       has = subst (λ (ms : List ℕ). HasDots (with_dot cell mark) ms) (sym more) (dot_more cell mark (take place marks) is unset so_far.has);
     }
-
--- marks that are neither empty nor the `0` of the blank cell
-pub record AreDots (marks : List ℕ) : Type 0 where
-  pub some : eqb (length marks) 0 ≡ false
-  pub not_blank : bytes_eq marks (codes "0") ≡ false
-
-marks_reading : (marks : List ℕ) → AreDots marks → cell_reading marks ≡ unless_fault (first_fault [] marks) (sum_by dot_number marks)
-marks_reading marks are = rw (are.some, are.not_blank) refl
-
-pub read_bad_dot : (marks : List ℕ) (place cell : ℕ) → AreDots marks → place < length marks → is_among dot_marks (get_or marks place 0) ≡ false → ReadSoFar marks place cell → cell_reading marks ≡ Err BadDot
-read_bad_dot marks place cell are lt bad so_far =
-    marks_reading marks are ∙ ap (λ (o : Option DotsFault). unless_fault o (sum_by dot_number marks)) (from_here marks place cell lt so_far ∙ bad_dot (take place marks) (drop (place + 1) marks) (get_or marks place 0) bad)
-
-pub read_repeated_dot : (marks : List ℕ) (place cell : ℕ) → AreDots marks → place < length marks → is_among dot_marks (get_or marks place 0) ≡ true → has_dot cell (get_or marks place 0) ≡ true → ReadSoFar marks place cell → cell_reading marks ≡ Err RepeatedDot
-read_repeated_dot marks place cell are lt is set so_far =
-    marks_reading marks are ∙ ap (λ (o : Option DotsFault). unless_fault o (sum_by dot_number marks))
-    (from_here marks place cell lt so_far ∙ repeated_dot (take place marks) (drop (place + 1) marks) (get_or marks place 0) is (sym (so_far.has.dots (get_or marks place 0) is) ∙ set))
-
-pub read_all : (marks : List ℕ) (place cell : ℕ) → AreDots marks → length marks ≤ place → ReadSoFar marks place cell → cell_reading marks ≡ Ok cell
-read_all marks place cell are le so_far =
-    let all : take place marks ≡ marks = take_all place marks le in
-    let rest : drop place marks ≡ [] = drop_of_length-le marks le in
-    let none : first_fault [] marks ≡ None = sym so_far.fault ∙ ap (λ (ms : List ℕ). first_fault (take place marks) ms) rest in
-    marks_reading marks are ∙ rw (none, so_far.has.sum, all) refl

@@ -1,6 +1,5 @@
 -- Writing cells, one after the other.
-use Rattle.std.proofs.Common.{◌≡◌, ℕ, ◌+◌, ◌<◌, Bool, true, false, List, [], ◌∷◌, ◌++◌, length, take, take_all, get_or, subst, ◌≤◌, append_assoc, arith, refl, sym, ap, ◌∙◌}
-use Rattle.std.specs.Prelude.{filter}
+use Rattle.std.proofs.Common.{◌≡◌, ℕ, ◌+◌, ◌<◌, Bool, true, false, List, [], ◌∷◌, ◌++◌, length, take, take_all, get_or, subst, ◌≤◌, append_assoc, arith, refl, sym, ap, ◌∙◌, filter}
 use Rattle.std.proofs.lemmas.List.{take_more, append-nil, length-take}
 use Rattle.brl_cells.specs.Dots.{AreCells, cell_spelling, spelling}
 use Rattle.std.proofs.lemmas.List.Elements.{filter-append, All-push}

@@ -2,10 +2,9 @@
 -- Tables", on dots operands). A cell is its number: dot d adds 2 ^ (d - 1), and the blank cell is
 -- 0. A text is the list of its bytes. That a cell has no dots but 1 to 8, and none of them twice,
 -- is the project's own choice, and so is the order of the faults.
-use Rattle.std.specs.Prelude.{ℕ, ◌-◌, ◌^◌, ◌<◌, Bool, not, nat_le, ◌==◌, if◌then◌else◌, List, [], ◌∷◌, ◌++◌, length, map, filter, Option, Some, None, Result, Ok, Err, codes}
+use Rattle.std.specs.Prelude.{ℕ, ◌-◌, ◌^◌, ◌<◌, Bool, not, nat_le, ◌==◌, if◌then◌else◌, List, [], ◌∷◌, ◌++◌, length, map, filter, Option, Some, None, Result, Ok, Err, codes, bytes_eq}
 use Rattle.std.specs.Int.{bit_at}
 use Rattle.std.specs.List.{All, join_with_byte, list_any, slice_split, sum_by}
-use Rattle.std.specs.Str.{bytes_eq}
 use Rattle.brl_failure.specs.Failure.{◌>>=◌}
 use Rattle.brl_cells.specs.declared.fault.DotsFault.{DotsFault}
 use Rattle.brl_cells.specs.declared.fault.DotsFault.TheVariants.{EmptyCell, BadDot, RepeatedDot, TooManyCells}

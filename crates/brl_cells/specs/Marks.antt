@@ -1,7 +1,6 @@
 -- The characters that are written for a cell: a mark of North American Braille ASCII, or a
 -- character of the Unicode block Braille Patterns. The choice of these two is the project's own.
-use Rattle.std.specs.Prelude.{ℕ, ◌+◌, List, [], ◌∷◌, ◌++◌, codes, map, Option, Some}
-use Rattle.std.specs.List.{slice_get}
+use Rattle.std.specs.Prelude.{ℕ, ◌+◌, List, [], ◌∷◌, ◌++◌, codes, map, Option, Some, slice_get}
 
 -- the marks of North American Braille ASCII, by the numbers of their cells, 0 to 63
 abbrev pub braille_ascii : List ℕ

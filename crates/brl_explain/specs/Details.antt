@@ -1,10 +1,8 @@
 -- What can be seen in the line of a fault itself. The project's own choice.
-use Rattle.std.specs.Prelude.{ℕ, ◌==◌, ◌/◌, ◌%◌, Bool, ◌&&◌, ◌||◌, not, if◌then◌else◌, List, [], ◌∷◌, ◌++◌, Option, Some, None, Result, Ok, Err, codes, flat_map, length, nat_eq, nat_le, nat_lt, option_map}
+use Rattle.std.specs.Prelude.{ℕ, ◌==◌, ◌/◌, ◌%◌, Bool, ◌&&◌, ◌||◌, not, if◌then◌else◌, List, [], ◌∷◌, ◌++◌, Option, Some, None, Result, Ok, Err, codes, flat_map, length, nat_eq, nat_le, nat_lt, option_map, decimal, bytes_eq, chars, encode_utf8_all}
 use Rattle.std.specs.Char.{digit_char}
-use Rattle.std.specs.Fmt.{decimal}
 use Rattle.std.specs.List.{after_first, before_first, find, list_any}
 use Rattle.std.specs.Option.{option_or}
-use Rattle.std.specs.Str.{bytes_eq, chars, encode_utf8_all}
 use Rattle.brl_cells.specs.Dots.{is_among, reading}
 use Rattle.brl_cells.specs.declared.fault.DotsFault.{DotsFault}
 use Rattle.brl_cells.specs.declared.fault.DotsFault.TheVariants.{BadDot, EmptyCell, RepeatedDot, TooManyCells}

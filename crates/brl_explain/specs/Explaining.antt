@@ -1,7 +1,6 @@
 -- What explains a fault. The texts are the constant `FAULTS`. The project's own choice.
-use Rattle.std.specs.Prelude.{ℕ, Bool, if◌then◌else◌, List, Option, codes, map, nat_eq}
+use Rattle.std.specs.Prelude.{ℕ, Bool, if◌then◌else◌, List, Option, codes, map, nat_eq, bytes_eq}
 use Rattle.std.specs.List.{after_first, before_first, find}
-use Rattle.std.specs.Str.{bytes_eq}
 use Rattle.brl_explain.specs.declared.faults.TheConstants.{FAULTS}
 
 -- a blank

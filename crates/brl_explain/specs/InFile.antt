@@ -1,9 +1,7 @@
 -- What can be seen in the file that a fault's line names. The project's own choice.
-use Rattle.std.specs.Prelude.{ℕ, ◌≡◌, ◌+◌, ◌==◌, Bool, ◌&&◌, if◌then◌else◌, List, [], ◌++◌, ◌⊎◌, MatchBool, Option, Some, None, codes, count_by, flat_map, length, nat_eq, option_map, slice_index, take}
-use Rattle.std.specs.Fmt.{decimal}
+use Rattle.std.specs.Prelude.{ℕ, ◌≡◌, ◌+◌, ◌==◌, Bool, ◌&&◌, if◌then◌else◌, List, [], ◌++◌, ◌⊎◌, MatchBool, Option, Some, None, codes, count_by, flat_map, length, nat_eq, option_map, slice_index, take, decimal, bytes_eq, chars}
 use Rattle.std.specs.List.{after_first, before_first, find, starts_with}
 use Rattle.std.specs.Option.{option_and_then, option_map_or}
-use Rattle.std.specs.Str.{bytes_eq, chars}
 use Rattle.std.specs.Str.Lossy.{utf8_valid_len}
 use Rattle.brl_explain.specs.Details.{byte_digits, operand_of, titled, unclear_spelling}
 use Rattle.brl_explain.specs.Explaining.{code_of, is_blank}

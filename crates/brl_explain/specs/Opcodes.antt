@@ -1,8 +1,6 @@
 -- Notes on words that are no opcodes where they are. The project's own choice.
-use Rattle.std.specs.Prelude.{ℕ, Bool, if◌then◌else◌, List, [], ◌∷◌, ◌++◌, codes, length, nat_le, nat_lt}
+use Rattle.std.specs.Prelude.{ℕ, Bool, if◌then◌else◌, List, [], ◌∷◌, ◌++◌, codes, length, nat_le, nat_lt, unwrap_or, bytes_eq, chars}
 use Rattle.std.specs.List.{find, list_any}
-use Rattle.std.specs.Option.{unwrap_or}
-use Rattle.std.specs.Str.{bytes_eq, chars}
 use Rattle.strsim.specs.Edits.{osa_table}
 use Rattle.brl_table.specs.Words.{opcode_words}
 

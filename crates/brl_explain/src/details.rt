@@ -1,6 +1,5 @@
 //! What can be seen in the line of a fault itself.
-ghost use Rattle.std.specs.Prelude.{◌≡◌, ◌++◌, ◌<◌, ◌||◌, not, find, IfOk, OnOk, flat_map, option_map, string_bytes};
-ghost use Rattle.std.specs.Str.{chars};
+ghost use Rattle.std.specs.Prelude.{◌≡◌, ◌++◌, ◌<◌, ◌||◌, not, find, IfOk, OnOk, flat_map, option_map, string_bytes, chars};
 ghost use Rattle.brl_cells.specs.Dots.{reading};
 ghost use Rattle.brl_lines.specs.Escapes.{characters_of};
 ghost use Rattle.brl_explain.specs.Details.{

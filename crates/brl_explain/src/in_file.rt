@@ -1,7 +1,6 @@
 //! What can be seen in the file that a fault's line names.
-ghost use Rattle.std.specs.Prelude.{◌≡◌, ◌++◌, ◌<◌, IfOk, OnOk, count_by, flat_map, length, map, option_map, string_bytes};
+ghost use Rattle.std.specs.Prelude.{◌≡◌, ◌++◌, ◌<◌, IfOk, OnOk, count_by, flat_map, length, map, option_map, string_bytes, chars};
 ghost use Rattle.std.specs.List.{after_first, before_first};
-ghost use Rattle.std.specs.Str.{chars};
 ghost use Rattle.brl_lines.specs.Answer.{FileAnswer as FileAnswerValue};
 ghost use Rattle.brl_lines.specs.Lines.{LocationView as LocationValue};
 ghost use Rattle.brl_lines.specs.Views.{line_view};

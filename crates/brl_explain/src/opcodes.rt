@@ -1,7 +1,6 @@
 //! Notes on words that are no opcodes where they are.
-ghost use Rattle.std.specs.Prelude.{◌≡◌, IfOk, map, string_bytes};
+ghost use Rattle.std.specs.Prelude.{◌≡◌, IfOk, map, string_bytes, bytes_eq};
 ghost use Rattle.std.specs.List.{list_any};
-ghost use Rattle.std.specs.Str.{bytes_eq};
 ghost use Rattle.brl_explain.specs.Opcodes.{
   is_opcode as is_one_of_opcodes,
   nearest_opcode as nearest,

@@ -1,6 +1,5 @@
 -- The infos of a text: the one at a position, and those of the characters that a step takes.
-use Rattle.std.proofs.Common.{ℕ, zero, suc, ◌<◌, ◌≡◌, List, [], ◌∷◌, length, take, drop, get_or, map, sym, ◌∙◌, ap, Option, Some, Bor}
-use Rattle.std.specs.Prelude.{slice_get}
+use Rattle.std.proofs.Common.{ℕ, zero, suc, ◌<◌, ◌≡◌, List, [], ◌∷◌, length, take, drop, get_or, map, sym, ◌∙◌, ap, Some, Bor, slice_get}
 use Rattle.std.proofs.lemmas.Option.{slice_get-get_or}
 use Rattle.std.proofs.lemmas.List.{length-map, take-map, drop-map}
 use Rattle.brl_rules.specs.declared.rule.Info.{Info}

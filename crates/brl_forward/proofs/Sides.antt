@@ -1,6 +1,5 @@
 -- The fault of one of two texts.
-use Rattle.std.proofs.Common.{ℕ, ◌≡◌, List, Err, IfErr, None, Ok, Result, subst, sym}
-use Rattle.std.specs.Prelude.{IsErrAnd}
+use Rattle.std.proofs.Common.{ℕ, ◌≡◌, List, Err, IfErr, None, Ok, Result, subst, sym, IsErrAnd}
 use Rattle.brl_failure.specs.Failure.{IfFault}
 use Rattle.brl_failure.specs.declared.failure.Failure.{Failure}
 use Rattle.brl_failure.specs.declared.failure.Failure.TheVariants as failures

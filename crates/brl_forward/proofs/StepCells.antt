@@ -1,6 +1,5 @@
 -- The cells of the steps, joined, are the translation.
-use Rattle.std.proofs.Common.{ℕ, zero, suc, ◌+◌, ◌≡◌, Bool, true, false, List, [], ◌∷◌, ◌++◌, length, cond, nat_lt, refl, ap}
-use Rattle.std.specs.List.{flat_map}
+use Rattle.std.proofs.Common.{ℕ, zero, suc, ◌+◌, ◌≡◌, Bool, true, false, List, [], ◌∷◌, ◌++◌, length, cond, nat_lt, refl, ap, flat_map}
 use Rattle.brl_rules.specs.TableView.{TableView}
 use Rattle.brl_rules.specs.Translation.{chosen_at, translation_from, translation}
 use Rattle.brl_forward.specs.declared.steps.Traced.{Traced}

@@ -1,6 +1,5 @@
 //! Laws of the definitions, for proofs in the crates above. A function's contract is the law.
-ghost use Rattle.std.specs.Prelude.{◌≡◌, ◌+◌, ◌<◌, ◌∷◌, ℕ, List, length};
-ghost use Rattle.std.specs.List.{flat_map};
+ghost use Rattle.std.specs.Prelude.{◌≡◌, ◌+◌, ◌<◌, ◌∷◌, ℕ, List, length, flat_map};
 ghost use Rattle.brl_rules.specs.TableView.{TableView};
 ghost use Rattle.brl_rules.specs.Translation.{chosen_at, translation};
 ghost use Rattle.brl_forward.specs.Trace.{step_at, steps_from, trace_of};

@@ -1,8 +1,7 @@
 -- Closed sets of states and pairs: two paths to final states that give the same cells differ by
 -- exchanges alone, up to a place where they diverge at one of the pairs of rules but for which the
 -- sets are closed. Where no steps are exchanged they are one path up to there.
-use Rattle.std.proofs.Common.{◌≡◌, ◌≢◌, ℕ, ◌+◌, ◌≤◌, Bool, true, false, ◌&&◌, ◌||◌, nat_eq, IsTrue, List, [], ◌∷◌, ◌++◌, ◌⊎◌, inl, inr, length, zero, suc, Some, refl, sym, ◌∙◌, ap, ap₂, subst, arith, eq-eqb}
-use Rattle.std.specs.Prelude.{slice_get}
+use Rattle.std.proofs.Common.{◌≡◌, ◌≢◌, ℕ, ◌+◌, ◌≤◌, Bool, true, false, ◌&&◌, ◌||◌, nat_eq, IsTrue, List, [], ◌∷◌, ◌++◌, ◌⊎◌, inl, inr, length, zero, suc, Some, refl, sym, ◌∙◌, ap, ap₂, subst, arith, eq-eqb, slice_get}
 use Rattle.std.specs.Cmp.{first_so, second_so}
 use Rattle.std.proofs.lemmas.List.{append_cancel_left}
 use Rattle.std.proofs.lemmas.List.Elements.{same_from_all_zip}

@@ -1,7 +1,5 @@
 -- Members of lists and their places.
-use Rattle.std.proofs.Common.{ℕ, zero, suc, ◌≡◌, ◌<◌, List, [], ◌∷◌, ◌++◌, length, map, refl, sym, ap, arith, subst, Some, ◌⊎◌, inl, inr}
-use Rattle.std.specs.Prelude.{slice_get, slice_index_or}
-use Rattle.std.specs.List.{Contains, flat_map}
+use Rattle.std.proofs.Common.{ℕ, zero, suc, ◌≡◌, ◌<◌, List, [], ◌∷◌, ◌++◌, length, map, refl, sym, ap, arith, subst, Some, ◌⊎◌, inl, inr, slice_get, slice_index_or, Contains, flat_map}
 
 -- an element is in a list
 abbrev pub IsIn : {X : Type 0} → X → List X → Type 0

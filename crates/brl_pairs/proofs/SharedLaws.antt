@@ -1,7 +1,5 @@
 -- Edges that a state shares with another one, and the splits that are left.
-use Rattle.std.proofs.Common.{◌≡◌, ◌≢◌, ◌⊎◌, ℕ, ◌+◌, ◌<◌, ◌≤◌, Bool, true, false, cond, nat_eq, List, [], ◌∷◌, ◌++◌, get_or, inl, inr, length, Some, slice_get, sym, ◌∙◌, ap, subst, arith, true≢false}
-use Rattle.std.specs.Prelude.{Contains}
-use Rattle.std.specs.List.Sorted.{IsPermutation}
+use Rattle.std.proofs.Common.{◌≡◌, ◌≢◌, ◌⊎◌, ℕ, ◌+◌, ◌<◌, ◌≤◌, Bool, true, false, cond, nat_eq, List, [], ◌∷◌, ◌++◌, get_or, inl, inr, length, Some, slice_get, sym, ◌∙◌, ap, subst, arith, true≢false, Contains, IsPermutation}
 use Rattle.std.proofs.lemmas.Bool.{cases_eq, eq-eqb, ne_eqb}
 use Rattle.std.proofs.lemmas.List.Sorted.{Contains-permutation, IsPermutation-sym}
 use Rattle.std.proofs.lemmas.Option.{slice_get-get_or, slice_get_within}

@@ -1,7 +1,6 @@
 -- States, and pairs that name them by their numbers. The limit of 1,024 cells for a lead is the
 -- project's own: no step gives more.
-use Rattle.std.specs.Prelude.{ℕ, ◌<◌, ◌≤◌, ◌==◌, ◌&&◌, All, Bool, List, length}
-use Rattle.std.specs.Str.{bytes_eq}
+use Rattle.std.specs.Prelude.{ℕ, ◌<◌, ◌≤◌, ◌==◌, ◌&&◌, All, Bool, List, length, bytes_eq}
 use Rattle.brl_pairs.specs.declared.step.Pair.{Pair}
 
 -- a pair that names its states by their numbers, from 0

@@ -1,6 +1,5 @@
 -- The parts of a state's steps: lists of steps that several states share. The project's own choice.
-use Rattle.std.specs.Prelude.{◌≡◌, ℕ, ◌==◌, List, filter}
-use Rattle.std.specs.List.{flat_map}
+use Rattle.std.specs.Prelude.{◌≡◌, ℕ, ◌==◌, List, filter, flat_map}
 use Rattle.brl_pairs.specs.declared.step.Step.{Step}
 
 -- the steps of the rule with this number

@@ -1,7 +1,6 @@
 -- Machines and their runs: steps from one state to the next. No table is needed: a machine has
 -- texts, and a translation of each. These definitions are this project's own choice.
-use Rattle.std.specs.Prelude.{◌≡◌, ◌≢◌, ℕ, ◌<◌, ◌≤◌, Bool, IsTrue, List, [], ◌∷◌, length, Some, slice_get}
-use Rattle.std.specs.List.{flat_map}
+use Rattle.std.specs.Prelude.{◌≡◌, ◌≢◌, ℕ, ◌<◌, ◌≤◌, Bool, IsTrue, List, [], ◌∷◌, length, Some, slice_get, flat_map}
 use Rattle.brl_pairs.specs.declared.step.Step.{Step}
 
 -- What a contract sees of a machine with these states: where it starts, the steps that it lists

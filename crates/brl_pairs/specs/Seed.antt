@@ -1,7 +1,6 @@
 -- Hashes by a seed: the value of a polynomial, modulo 2^61 - 1. The project's own choice.
-use Rattle.std.specs.Prelude.{ℕ, ◌+◌, ◌*◌, ◌/◌, ◌%◌, ◌^◌, List, length, nat_le, drop, if◌then◌else◌}
+use Rattle.std.specs.Prelude.{ℕ, ◌+◌, ◌*◌, ◌/◌, ◌%◌, ◌^◌, List, length, nat_le, drop, if◌then◌else◌, fold}
 use Rattle.std.specs.Int.{from_le_bytes, w64}
-use Rattle.std.specs.List.{fold}
 use Rattle.brl_pairs.specs.declared.seed.Seed.{Seed}
 use Rattle.brl_pairs.specs.declared.seed.SeededHasher.{SeededHasher}
 

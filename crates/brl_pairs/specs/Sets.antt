@@ -1,6 +1,5 @@
 -- The sets of states and of pairs that a body lists. The project's own choice.
-use Rattle.std.specs.Prelude.{ℕ, List, Option, Some, slice_get}
-use Rattle.std.specs.Option.{option_and_then}
+use Rattle.std.specs.Prelude.{ℕ, List, Option, Some, slice_get, option_and_then}
 use Rattle.brl_pairs.specs.Body.{BodyView, NumberPair}
 use Rattle.brl_pairs.specs.Pairs.{Sets, numbered}
 use Rattle.brl_pairs.specs.declared.step.Pair.{Pair}

@@ -1,6 +1,6 @@
 -- Edges that a state shares with another one, and the splits that are left. The project's own
 -- choice.
-use Rattle.std.specs.Prelude.{◌≡◌, ◌≢◌, ℕ, ◌<◌, Bool, true, false, Contains, List, ◌⊎◌, length, Some, slice_get}
+use Rattle.std.specs.Prelude.{◌≡◌, ℕ, ◌<◌, Bool, true, false, Contains, List, ◌⊎◌, length, Some, slice_get}
 use Rattle.brl_pairs.specs.Sorted.{DoMatch, cells_of}
 use Rattle.brl_pairs.specs.declared.shared.TwoPlaces.{TwoPlaces}
 use Rattle.brl_pairs.specs.declared.sorted.SortedEdge.{SortedEdge}

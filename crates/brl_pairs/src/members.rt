@@ -1,7 +1,6 @@
 //! Lists without repeats that find their members by hash.
-ghost use Rattle.std.specs.Prelude.{◌≡◌, ◌↔◌, ℕ, List, [], ◌∷◌, ◌++◌, length, IfSome, IfOk, IsFalse, IsTrue, OnErr, Some, if◌then◌else◌, not, slice_get, take};
+ghost use Rattle.std.specs.Prelude.{◌≡◌, ◌↔◌, ℕ, List, [], ◌∷◌, ◌++◌, length, IfSome, IfOk, IsFalse, IsTrue, OnErr, Some, if◌then◌else◌, not, slice_get, take, option_copied};
 ghost use Rattle.std.specs.List.{IsDistinct, list_any};
-ghost use Rattle.std.specs.Option.{option_copied};
 ghost use Rattle.brl_pairs.specs.Members.{HaveOneNumber, IsMember};
 
 use crate::{Key, Seed};

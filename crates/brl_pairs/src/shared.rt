@@ -81,13 +81,7 @@ fn is_like_at(edge: &SortedEdge, others: &[SortedEdge], position: usize) -> bool
 pub fn count_unshared(shared: &[bool]) -> usize
     ensures { result ≡ length (filter not shared.now) }
 {
-    let mut count = 0usize;
-    for is_shared in shared {
-        if !*is_shared {
-            count += 1;
-        }
-    }
-    count
+    shared.iter().filter(|is_shared| !**is_shared).count()
 }
 
 /// The splits that have an edge which isn't shared. They ascend by the place of their second edge,

@@ -1,7 +1,5 @@
 -- The files of a table's rules and characters have names.
-use Rattle.std.proofs.Common.{ℕ, ◌≡◌, ◌≤◌, ◌<◌, List, length, nat_eq, Option, Some, refl, subst, sym, ◌∙◌}
-use Rattle.std.specs.Prelude.{IfSome, option_copied, slice_get}
-use Rattle.std.specs.Borrow.{Bor}
+use Rattle.std.proofs.Common.{ℕ, ◌≡◌, ◌≤◌, ◌<◌, List, length, nat_eq, Option, Some, refl, subst, sym, ◌∙◌, IfSome, option_copied, slice_get, Bor}
 use Rattle.std.proofs.lemmas.Map.Entries.{All-lookup}
 use Rattle.std.proofs.lemmas.Option.{slice_get_past}
 use Rattle.brl_report.specs.Place.{place_text}

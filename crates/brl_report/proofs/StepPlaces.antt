@@ -1,8 +1,6 @@
 -- Where each step of a text begins: after the characters of the steps before it.
-use Rattle.std.proofs.Common.{ℕ, zero, suc, ◌+◌, ◌<◌, ◌≡◌, ◌∙◌, Bool, true, false, List, [], ◌∷◌, ◌++◌, ◌≤◌, Some, ap, arith, cond, drop, get_or, length, length-drop, nat_lt, refl, subst, sym, take}
-use Rattle.std.specs.Prelude.{slice_get}
+use Rattle.std.proofs.Common.{ℕ, zero, suc, ◌+◌, ◌<◌, ◌≡◌, ◌∙◌, Bool, true, false, List, [], ◌∷◌, ◌++◌, ◌≤◌, Some, ap, arith, cond, drop, get_or, length, length-drop, nat_lt, refl, subst, sym, take, slice_get, ltb-true}
 use Rattle.std.proofs.lemmas.Option.{slice_get-get_or}
-use Rattle.std.proofs.lemmas.Bool.{ltb-true}
 use Rattle.brl_rules.specs.TableView.{TableView}
 use Rattle.brl_rules.specs.Choice.{chosen}
 use Rattle.brl_rules.specs.Text.{classes_before, context_after_all, context_at}

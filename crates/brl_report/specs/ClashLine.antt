@@ -1,7 +1,6 @@
 -- A clash in one line. The project's own choice.
-use Rattle.std.specs.Prelude.{ℕ, Bool, true, ◌==◌, if◌then◌else◌, List, ◌++◌, codes, slice_get}
+use Rattle.std.specs.Prelude.{ℕ, Bool, true, ◌==◌, if◌then◌else◌, List, ◌++◌, codes, slice_get, encode_utf8_all}
 use Rattle.std.specs.Option.{option_map_or}
-use Rattle.std.specs.Str.{encode_utf8_all}
 use Rattle.brl_cells.specs.Dots.{spelling}
 use Rattle.brl_forward.specs.ClashView.{ClashView}
 use Rattle.brl_lines.specs.Tokens.{LineView}

@@ -1,6 +1,5 @@
 -- The first lines of a report. The project's own choice.
-use Rattle.std.specs.Prelude.{ℕ, List, ◌++◌, codes}
-use Rattle.std.specs.Str.{encode_utf8_all}
+use Rattle.std.specs.Prelude.{ℕ, List, ◌++◌, codes, encode_utf8_all}
 use Rattle.brl_cells.specs.Dots.{spelling}
 use Rattle.brl_lines.specs.Spelling.{text_spelling}
 

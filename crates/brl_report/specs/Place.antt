@@ -1,7 +1,5 @@
 -- A file of a table and one of its lines. The project's own choice.
-use Rattle.std.specs.Prelude.{ℕ, List, [], ◌++◌, codes, slice_get}
-use Rattle.std.specs.Fmt.{decimal}
-use Rattle.std.specs.Option.{unwrap_or}
+use Rattle.std.specs.Prelude.{ℕ, List, [], ◌++◌, codes, slice_get, decimal, unwrap_or}
 use Rattle.brl_rules.specs.TableView.{TableView}
 
 -- the name of a table's file

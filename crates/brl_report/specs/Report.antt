@@ -1,6 +1,5 @@
 -- The report of a clash. The project's own choice.
-use Rattle.std.specs.Prelude.{ℕ, List, [], ◌∷◌, ◌++◌, codes, drop}
-use Rattle.std.specs.Fmt.{decimal}
+use Rattle.std.specs.Prelude.{ℕ, List, [], ◌∷◌, ◌++◌, codes, drop, decimal}
 use Rattle.brl_lines.specs.Tokens.{LineView}
 use Rattle.brl_report.specs.Header.{cells_line, text_line}
 use Rattle.brl_report.specs.Rows.{step_lines}

@@ -1,8 +1,7 @@
 -- The lines of a report that list the steps of a text. The project's own choice.
-use Rattle.std.specs.Prelude.{ℕ, ◌-◌, max, false, List, [], ◌∷◌, ◌++◌, Option, Some, None, codes, fold, flat_map, map, slice_get, take, drop}
+use Rattle.std.specs.Prelude.{ℕ, ◌-◌, max, false, List, [], ◌∷◌, ◌++◌, Option, Some, None, codes, fold, flat_map, map, slice_get, take, drop, chars, encode_utf8_all}
 use Rattle.std.specs.List.{repeat}
 use Rattle.std.specs.Option.{option_map_or}
-use Rattle.std.specs.Str.{chars, encode_utf8_all}
 use Rattle.unicode_width.specs.Width.{str_width}
 use Rattle.brl_cells.specs.Dots.{spelling}
 use Rattle.brl_lines.specs.Spelling.{text_spelling}

@@ -1,11 +1,8 @@
 -- The report of a survey: the faulty lines of a table, how many there are of each opcode and whose
 -- opcode that is, and how many lines are read, of each file and of all. The project's own choice.
-use Rattle.std.specs.Prelude.{ℕ, ◌≡◌, ◌+◌, ◌-◌, Bool, if◌then◌else◌, nat_lt, List, [], ◌++◌, codes, count_by, flat_map, length, map}
+use Rattle.std.specs.Prelude.{ℕ, ◌≡◌, ◌+◌, ◌-◌, Bool, if◌then◌else◌, nat_lt, List, [], ◌++◌, codes, count_by, flat_map, length, map, decimal, IsPermutation, IsSorted, bytes_eq}
 use Rattle.std.specs.Cmp.Lexicographic.{slice_cmp}
-use Rattle.std.specs.Fmt.{decimal}
-use Rattle.std.specs.List.Sorted.{IsPermutation, IsSorted}
 use Rattle.std.specs.Ordering.{flip_args, nat_cmp, on, then_cmp}
-use Rattle.std.specs.Str.{bytes_eq}
 use Rattle.std.specs.declared.cmp.Ordering.{Ordering}
 use Rattle.brl_lines.specs.Gathering.{LeftView}
 use Rattle.brl_lines.specs.Tokens.{LineView}

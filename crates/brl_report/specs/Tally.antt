@@ -1,12 +1,10 @@
 -- Internal. What a tally of opcodes has.
-use Rattle.std.specs.Prelude.{ℕ, ◌≡◌, List, count_by, map}
+use Rattle.std.specs.Prelude.{ℕ, ◌≡◌, List, count_by, map, unwrap_or, bytes_eq}
 use Rattle.std.specs.Borrow.{Bor}
 use Rattle.std.specs.BTreeMap.{BTreeMap, get_by}
 use Rattle.std.specs.Cmp.Lexicographic.{slice_cmp}
 use Rattle.std.specs.Global.{Vec}
-use Rattle.std.specs.Option.{unwrap_or}
 use Rattle.std.specs.Ordering.{nat_cmp}
-use Rattle.std.specs.Str.{bytes_eq}
 use Rattle.brl_table.specs.Reading.{dedup}
 
 -- the names are these opcodes, each once, and the numbers are how often each is among them

@@ -1,6 +1,5 @@
 -- The list of the rules of a table that no text uses. The project's own choice.
-use Rattle.std.specs.Prelude.{ℕ, ◌==◌, if◌then◌else◌, List, ◌++◌, [], Option, None, codes, flat_map, length, option_map, slice_get}
-use Rattle.std.specs.Fmt.{decimal}
+use Rattle.std.specs.Prelude.{ℕ, ◌==◌, if◌then◌else◌, List, ◌++◌, [], Option, None, codes, flat_map, length, option_map, slice_get, decimal}
 use Rattle.std.specs.Option.{option_and_then, option_map_or}
 use Rattle.brl_forward.specs.Trace.{trace_of}
 use Rattle.brl_forward.specs.declared.steps.Traced.{Traced}

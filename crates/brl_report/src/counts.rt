@@ -1,6 +1,5 @@
 //! How many faulty lines there are of each opcode.
-ghost use Rattle.std.specs.Prelude.{◌≡◌, ℕ, List, IfOk, count_by, map};
-ghost use Rattle.std.specs.Str.{bytes_eq};
+ghost use Rattle.std.specs.Prelude.{◌≡◌, ℕ, List, IfOk, count_by, map, bytes_eq};
 ghost use Rattle.brl_table.specs.Survey.{faulty_line_view};
 ghost use Rattle.brl_report.specs.Survey.{AreCounts, count_cmp, opcodes_of};
 ghost use Rattle.brl_report.specs.Tally.{IsTally};

@@ -1,6 +1,5 @@
 //! The report of a cut.
-ghost use Rattle.std.specs.Prelude.{◌≡◌, ◌++◌, ◌+◌, ◌<◌, ◌^◌, IfOk, OnOk, count_by, flat_map, length, map, string_bytes};
-ghost use Rattle.std.specs.Str.{bytes_eq};
+ghost use Rattle.std.specs.Prelude.{◌≡◌, ◌++◌, ◌+◌, ◌<◌, ◌^◌, IfOk, OnOk, count_by, flat_map, length, map, string_bytes, bytes_eq};
 ghost use Rattle.brl_table.specs.Survey.{faulty_line_view};
 ghost use Rattle.brl_report.specs.Survey.{IsCutText, cut_file_line, kept_in, kept_note, rewritten_note};
 

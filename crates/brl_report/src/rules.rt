@@ -1,5 +1,5 @@
 //! The list of a table's rules, by their numbers.
-ghost use Rattle.std.specs.Prelude.{◌≡◌, ◌++◌, ◌-◌, ◌<◌, ◌≤◌, [], IfOk, OnOk, flat_map, length, map, option_map, string_bytes};
+ghost use Rattle.std.specs.Prelude.{◌≡◌, ◌++◌, ◌-◌, ◌<◌, ◌≤◌, [], IfOk, OnOk, flat_map, length, map, option_map, string_bytes, bytes_eq};
 ghost use Rattle.brl_lines.specs.Views.{line_view};
 ghost use Rattle.brl_report.specs.Rules.{
   after_blanks,
@@ -28,7 +28,6 @@ ghost use Rattle.brl_report.specs.Rules.{
 };
 ghost use Rattle.brl_report.specs.Place.{file_name as name_of_file};
 ghost use Rattle.std.specs.List.{find, list_any};
-ghost use Rattle.std.specs.Str.{bytes_eq};
 ghost use Rattle.brl_table.specs.Words.{opcode_words};
 ghost use Rattle.std.specs.Option.{option_map_or};
 
@@ -338,12 +337,7 @@ pub enum Wanted<'a> {
 pub fn first_line<'l, 'a>(lines: &'l [Line<'a>], wanted: Wanted<'_>) -> Option<&'l Line<'a>>
     ensures { option_map borrowed_line_view result ≡ find (is_wanted_line wanted.entry) (map line_view lines.now) }
 {
-    for line in lines {
-        if is_wanted(line, wanted) {
-            return Some(line);
-        }
-    }
-    None
+    lines.iter().find(|line| is_wanted(*line, wanted))
 }
 
 /// Whether a line is the one that is looked for.

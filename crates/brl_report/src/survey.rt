@@ -1,6 +1,5 @@
 //! The report of a survey.
-ghost use Rattle.std.specs.Prelude.{◌≡◌, ◌++◌, [], IfOk, OnOk, count_by, flat_map, if◌then◌else◌, map, string_bytes};
-ghost use Rattle.std.specs.Str.{bytes_eq};
+ghost use Rattle.std.specs.Prelude.{◌≡◌, ◌++◌, [], IfOk, OnOk, count_by, flat_map, if◌then◌else◌, map, string_bytes, bytes_eq};
 ghost use Rattle.brl_lines.specs.Views.{line_view};
 ghost use Rattle.brl_table.specs.Liblouis.{origin_of as origin_of_opcode};
 ghost use Rattle.brl_table.specs.Survey.{faulty_line_view, findings_view};

@@ -1,6 +1,5 @@
 -- The characters that a table defines.
-use Rattle.std.proofs.Common.{ℕ, ◌≡◌, Bool, true, false, cond, List, [], ◌∷◌, ap, refl, Some, is_some, inl, inr, nat_eq}
-use Rattle.std.proofs.lemmas.Bool.{eq-eqb}
+use Rattle.std.proofs.Common.{ℕ, ◌≡◌, Bool, true, false, cond, List, [], ◌∷◌, ap, refl, Some, is_some, inl, inr, nat_eq, eq-eqb}
 use Rattle.std.specs.Map.{keys_of, lookup}
 use Rattle.brl_pairs.proofs.Listing.{IsIn}
 use Rattle.brl_rules.specs.declared.rule.Info.{Info}

@@ -1,15 +1,12 @@
 -- The order of dues is total, dues that tie are the same, and two lists in order with the same
 -- members are one.
-use Rattle.std.proofs.Common.{◌≡◌, ℕ, ◌⊎◌, List, [], ◌∷◌, refl, sym, ap, ◌∙◌, subst, inl, inr, arith}
+use Rattle.std.proofs.Common.{◌≡◌, ◌⊎◌, List, [], ◌∷◌, refl, sym, ap, ◌∙◌, subst, inl, inr, arith, Ordering, Less, Equal, Greater}
 use Rattle.std.specs.Ordering.{ordering_then, ordering_reverse}
 use Rattle.std.specs.Cmp.{IsTotalOrder}
 use Rattle.std.specs.List.{AllByRecursion}
 use Rattle.std.specs.List.Sorted.{IsStrictlySortedBy}
-use Rattle.std.specs.declared.cmp.Ordering.{Ordering}
-use Rattle.std.specs.declared.cmp.Ordering.TheVariants.{Less, Equal, Greater}
 use Rattle.std.specs.FinMap.{nat_cmp-IsAntisymmetric, slice_cmp-IsAntisymmetric}
 use Rattle.std.proofs.lemmas.Cmp.{nat_cmp_total, nat_list_cmp_total, on_total, then_total, tied_itself}
-use Rattle.brl_rules.specs.declared.class.Class.{Class}
 use Rattle.brl_rules.specs.declared.place.Cond.{Cond}
 use Rattle.brl_rules.specs.declared.place.Cond.TheVariants.{Any, Meets, Avoids}
 use Rattle.brl_states.specs.declared.due.Due.{Due}
@@ -27,9 +24,6 @@ then_equal : (o p : Ordering) → ordering_then o p ≡ Equal → (o ≡ Equal) 
 then_equal Less p e = (cc, cc)
 then_equal Equal p e = (refl, e)
 then_equal Greater p e = (cc, cc)
-
-class_of : ℕ → Class
-class_of n = record { 0 = n }
 
 same_cond : (c d : Cond) → cond_kind c ≡ cond_kind d → cond_set c ≡ cond_set d → c ≡ d
 same_cond Any Any k e = refl

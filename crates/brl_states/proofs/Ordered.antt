@@ -1,6 +1,5 @@
 -- Putting dues in order keeps those that are in order, and keeps their members.
-use Rattle.std.proofs.Common.{◌≡◌, List, sym}
-use Rattle.std.specs.List.{Contains}
+use Rattle.std.proofs.Common.{◌≡◌, List, sym, Contains}
 use Rattle.brl_states.specs.declared.due.Due.{Due}
 use Rattle.brl_states.specs.Order.{AreDues, in_order}
 use Rattle.brl_states.proofs.DueOrder.{from-in_order, in-in_order, is-in_order}

@@ -1,6 +1,5 @@
 -- A relation that holds of any two members of a list, the earlier one first.
-use Rattle.std.proofs.Common.{◌≡◌, ℕ, zero, suc, ◌<◌, Bool, true, false, List, [], ◌∷◌, ◌++◌, Some, arith, cond, filter, subst, sym, inl, inr, refl}
-use Rattle.std.specs.Prelude.{slice_get, map}
+use Rattle.std.proofs.Common.{◌≡◌, ℕ, zero, suc, ◌<◌, Bool, true, false, List, [], ◌∷◌, ◌++◌, Some, arith, cond, filter, subst, sym, inl, inr, refl, slice_get, map}
 use Rattle.std.specs.Bool.{⊤}
 use Rattle.std.specs.List.{AllByRecursion, flat_map}
 use Rattle.brl_pairs.proofs.Listing.{IsIn, in-append, in-right, from-flat_map, at-in}

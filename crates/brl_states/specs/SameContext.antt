@@ -1,7 +1,6 @@
 -- Internal. Contexts whose fields the derived equality of a state calls equal are equal.
-use Rattle.std.proofs.Common.{◌≡◌, ◌&&◌, Bool, true}
+use Rattle.std.specs.Prelude.{◌≡◌, ◌&&◌, Bool, true, eqb}
 use Rattle.std.proofs.Math.Bool.{beq}
-use Rattle.std.proofs.Math.Dec.{eqb}
 use Rattle.std.proofs.lemmas.Bool.Decides.{Decides-eqb}
 use Rattle.std.specs.Cmp.{first_so, second_so}
 use Rattle.brl_pairs.specs.SameMembers.{same_bools}

@@ -1,7 +1,6 @@
 //! Laws of the definitions, for the crates above: each function has an empty body, and its contract
 //! is the law.
-ghost use Rattle.std.specs.Prelude.{◌≡◌, ◌↔◌, All, IsTrue, List};
-ghost use Rattle.std.specs.List.{Contains};
+ghost use Rattle.std.specs.Prelude.{◌≡◌, ◌↔◌, All, IsTrue, List, Contains};
 ghost use Rattle.brl_states.specs.Order.{AreDues, in_order, is_proper};
 ghost use Rattle.brl_states.specs.declared.due.Due.{Due as DueValue};
 

@@ -1,8 +1,5 @@
 -- The parts of an operand around its first comma.
-use Rattle.std.proofs.Common.{ℕ, suc, ◌+◌, ◌<◌, ◌≡◌, Bool, true, false, ◌||◌, cond, List, [], ◌∷◌, length, refl, arith, Option, Some, None, lit<}
-use Rattle.std.specs.Prelude.{not}
-use Rattle.std.specs.Borrow.{Bor}
-use Rattle.std.specs.Option.{MatchOption}
+use Rattle.std.proofs.Common.{ℕ, suc, ◌+◌, ◌<◌, ◌≡◌, Bool, true, false, ◌||◌, cond, List, [], ◌∷◌, length, refl, arith, Option, Some, None, lit<, not, Bor, MatchOption}
 use Rattle.std.specs.List.{list_any, position_or_len}
 use Rattle.std.proofs.lemmas.Str.Pattern.{IsSplitOnceResult, split_once_first}
 use Rattle.brl_table.specs.Items.{is_comma, parts_of}

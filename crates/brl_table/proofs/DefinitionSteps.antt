@@ -1,15 +1,14 @@
 -- One more definition: the entries, the characters of plain lines, and the notices.
-use Rattle.std.proofs.Common.{ℕ, ◌+◌, ◌≤◌, ◌≡◌, Bool, true, false, ◌||◌, ◌&&◌, cond, if◌then◌else◌, List, [], ◌∷◌, ◌++◌, length, map, nat_eq, refl, arith, sym, ◌∙◌, ap, Option, Some, None, append-nil, append_assoc}
-use Rattle.std.specs.Prelude.{bit_or, is_some, not}
+use Rattle.std.proofs.Common.{ℕ, ◌+◌, ◌≤◌, ◌≡◌, Bool, true, false, ◌||◌, ◌&&◌, cond, if◌then◌else◌, List, [], ◌∷◌, ◌++◌, length, map, nat_eq, refl, arith, sym, ◌∙◌, ap, Option, Some, None, append-nil, append_assoc, bit_or, is_some, not, eqb-true, eq-eqb}
 use Rattle.std.specs.Int.Bits.{or_zero_l}
 use Rattle.std.specs.List.{find, list_any}
 use Rattle.std.specs.Map.{lookup, set_value}
 use Rattle.std.specs.Option.{option_map_or, option_or}
-use Rattle.std.proofs.lemmas.Bool.{eqb-true, eq-eqb}
 use Rattle.std.proofs.lemmas.List.{map-append}
 use Rattle.std.proofs.lemmas.List.Folds.{find-append}
 use Rattle.std.proofs.lemmas.List.Sums.{fold-append}
 use Rattle.std.proofs.lemmas.List.Elements.{filter-append}
+use Rattle.std.proofs.lemmas.Bool.{or_parts}
 use Rattle.indexmap.specs.IndexMap.{insert_entry}
 use Rattle.indexmap.specs.IndexSet.{contains}
 use Rattle.brl_rules.specs.declared.class.Class.{Class}
@@ -19,7 +18,7 @@ use Rattle.brl_rules.specs.declared.rule.Info.{Info}
 use Rattle.brl_table.specs.Reading.{Listed, insert_new, dedup, about, defined_characters, defined_classes, defined_entries, first_literary, first_plain, first_uplow, defined_info, is_repeated, notice_of, notices_after, numbered}
 use Rattle.brl_table.specs.Building.{info_first, is_known, merged, none_listed, CharactersRepresent}
 use Rattle.brl_table.proofs.Inserting.{any-fold, put-known}
-use Rattle.brl_table.proofs.NumberedEntries.{absent, found-numbered, is_there, length-numbered, numbered-new, numbered-old, neither, single-fold, there}
+use Rattle.brl_table.proofs.NumberedEntries.{absent, found-numbered, is_there, length-numbered, numbered-new, numbered-old, single-fold, there}
 use Rattle.brl_rules.proofs.Facts.{nat_eq-sym}
 
 -- ---- whether a character is known
@@ -37,14 +36,14 @@ known-found defined listed c = found-numbered (defined_info defined listed) c 0 
 unknown-about : (defined : List Definition) (c : ℕ) → is_known defined c ≡ false → about defined c ≡ []
 unknown-about [] c h = refl
 unknown-about (d ∷ defined) c h =
-    let p = neither (nat_eq c d.character) (is_known defined c) h in
+    let p = or_parts (nat_eq c d.character) (is_known defined c) h in
     rw p.0 (unknown-about defined c p.1)
 
 -- a character that isn't known has no line of any kind
 unknown-find : (kind : Definition → Bool) (defined : List Definition) (c : ℕ) → is_known defined c ≡ false → find (λ d. nat_eq c d.character && kind d) defined ≡ None
 unknown-find kind [] c h = refl
 unknown-find kind (d ∷ defined) c h =
-    let p = neither (nat_eq c d.character) (is_known defined c) h in
+    let p = or_parts (nat_eq c d.character) (is_known defined c) h in
     rw p.0 (unknown-find kind defined c p.1)
 
 -- a known character without a `litdigit` line has a plain one

@@ -1,13 +1,9 @@
 -- The names of files, without repetitions.
-use Rattle.std.proofs.Common.{ℕ, ◌+◌, ◌<◌, ◌≡◌, Bool, true, false, cond, List, [], ◌∷◌, ◌++◌, length, map, take, refl, sym, ◌∙◌, ap, Option, Some, None, get_or}
-use Rattle.std.specs.Prelude.{position, string_bytes, is_some, not}
-use Rattle.std.specs.Global.{Global}
-use Rattle.std.proofs.Common.{String}
+use Rattle.std.proofs.Common.{ℕ, ◌+◌, ◌<◌, ◌≡◌, Bool, true, false, cond, List, [], ◌∷◌, ◌++◌, length, map, take, refl, sym, ◌∙◌, ap, Option, Some, None, get_or, String, position, string_bytes, is_some, not, Global, bytes_eq}
 use Rattle.brl_lines.specs.Tokens.{LineView}
 use Rattle.brl_lines.specs.Views.{line_view}
 use Rattle.brl_lines.specs.declared.line.Line.{Line}
 use Rattle.std.specs.List.{position_from}
-use Rattle.std.specs.Str.{bytes_eq}
 use Rattle.std.proofs.lemmas.List.{map-append, take_more}
 use Rattle.std.proofs.lemmas.List.Sums.{fold-append}
 use Rattle.std.proofs.lemmas.Iterator.Adapters.{position_from-zero}

@@ -1,13 +1,9 @@
 -- One more line of the first pass.
-use Rattle.std.proofs.Common.{ℕ, zero, suc, ◌+◌, ◌<◌, ◌≡◌, Bool, true, false, ◌||◌, cond, ◌⊎◌, inl, inr, List, [], ◌∷◌, ◌++◌, length, map, fold, take, refl, arith, sym, ◌∙◌, ap, subst, Option, Some, None, Result, Ok, get_or}
-use Rattle.std.specs.Prelude.{position, string_bytes, slice_get, unwrap_or, All, IsSome, option_map}
-use Rattle.std.proofs.lemmas.Option.{slice_get-map, slice_get-get_or}
+use Rattle.std.proofs.Common.{ℕ, zero, suc, ◌+◌, ◌<◌, ◌≡◌, Bool, true, false, ◌||◌, cond, ◌⊎◌, inl, inr, List, [], ◌∷◌, ◌++◌, length, map, fold, take, refl, arith, sym, ◌∙◌, ap, subst, Option, Some, None, Result, Ok, get_or, String, position, string_bytes, slice_get, unwrap_or, All, IsSome, option_map, Global, bytes_eq}
+use Rattle.std.proofs.lemmas.Option.{slice_get-map, slice_get-get_or, get_or_from_slice_get}
 use Rattle.std.proofs.lemmas.Slice.Eq.{bytes_eq-Decides}
-use Rattle.std.specs.Global.{Global}
-use Rattle.std.proofs.Common.{String}
 use Rattle.std.specs.List.{list_any, position_from}
-use Rattle.std.specs.Str.{bytes_eq}
-use Rattle.std.proofs.lemmas.List.{map-append, take_more}
+use Rattle.std.proofs.lemmas.List.{map-append, take_more, length-map}
 use Rattle.std.proofs.lemmas.Iterator.Adapters.{position_from-zero}
 use Rattle.brl_lines.specs.Tokens.{LineView}
 use Rattle.brl_lines.specs.Views.{line_view}
@@ -22,12 +18,9 @@ use Rattle.brl_failure.specs.declared.failure.Failure.TheVariants as failures
 use Rattle.brl_table.specs.Items.{Fault, item_of}
 use Rattle.std.proofs.lemmas.Bool.{cases_order}
 use Rattle.std.proofs.lemmas.List.Elements.{All-push}
-use Rattle.std.proofs.lemmas.List.{length-map}
-use Rattle.std.proofs.lemmas.Option.{get_or_from_slice_get}
-use Rattle.brl_table.specs.Reading.{IsAt, IsFaultOf, IsFirstFault}
+use Rattle.brl_table.specs.Reading.{IsAt, IsFaultOf, IsFirstFault, item_in, items_of, ok_of, fault_after, first_pass_fault, file_number, files_of, repeats_indicator, file_place, insert_new, PassesBefore}
 use Rattle.brl_table.specs.declared.table_fault.TableFault.{TableFault}
 use Rattle.brl_table.specs.ItemLimits.{IsWithinLimits, IsItemWithinLimits}
-use Rattle.brl_table.specs.Reading.{item_in, items_of, ok_of, fault_after, first_pass_fault, file_number, files_of, repeats_indicator, file_place, insert_new, PassesBefore}
 use Rattle.brl_table.specs.Building.{AreWithinLimits, Represents}
 use Rattle.brl_table.proofs.ItemSteps.{fault-none}
 use Rattle.brl_rules.proofs.Facts.{some_is}

@@ -1,8 +1,7 @@
 -- One more item of the first pass: what represents the items, and whether they are too many.
-use Rattle.std.proofs.Common.{ℕ, ◌<◌, ◌≤◌, ◌≡◌, Bool, true, false, ◌||◌, ◌==◌, not, cond, List, [], ◌∷◌, ◌++◌, length, nat_lt, refl, arith, sym, ◌∙◌, ap, subst, Some, None, Result, Ok, Err, append-nil}
+use Rattle.std.proofs.Common.{ℕ, ◌<◌, ◌≤◌, ◌≡◌, Bool, true, false, ◌||◌, ◌==◌, not, cond, List, [], ◌∷◌, ◌++◌, length, nat_lt, refl, arith, sym, ◌∙◌, ap, subst, Some, None, Result, Ok, Err, append-nil, lt-ltb}
 use Rattle.std.proofs.lemmas.Bool.Decides.{nat_tests}
 use Rattle.std.proofs.lemmas.Grind.{flat_map-append}
-use Rattle.std.proofs.lemmas.Bool.{lt-ltb}
 use Rattle.brl_lines.specs.Tokens.{LineView}
 use Rattle.brl_table.specs.declared.characters.Characters.{Characters}
 use Rattle.brl_table.specs.declared.item.Item.{Item}
@@ -18,7 +17,7 @@ use Rattle.brl_table.specs.Items.{Fault, fault}
 use Rattle.brl_table.specs.Reading.{are_too_many, defined_characters, definition_in, definitions, fault_after, indicated_in, repeats_indicator, opcode_in, indicator_cells, used_in, used_rules}
 use Rattle.brl_table.specs.Building.{Adds, none_listed, SignsRepresent, Represents, CharactersRepresent}
 use Rattle.brl_table.proofs.DefinitionSteps.{count-entries}
-use Rattle.brl_table.proofs.NumberedEntries.{neither}
+use Rattle.std.proofs.lemmas.Bool.{or_parts}
 use Rattle.brl_rules.proofs.Facts.{not_below, not_above}
 
 -- a list of the cells of each indicator gives each its own
@@ -126,7 +125,7 @@ module _ (items : List Item) (line : LineView) (item : Item) where
     within-limits few =
         let characters_now = length (defined_characters (definitions (items ++ item ∷ []))) in
         let rules_now = length (used_rules (items ++ item ∷ [])) in
-        let tests : (nat_lt 1024 characters_now ≡ false) × (nat_lt 4096 rules_now ≡ false) = neither (nat_lt 1024 characters_now) (nat_lt 4096 rules_now) few in
+        let tests : (nat_lt 1024 characters_now ≡ false) × (nat_lt 4096 rules_now ≡ false) = or_parts (nat_lt 1024 characters_now) (nat_lt 4096 rules_now) few in
         let characters_few : characters_now ≤ 1024 = not_below 1024 characters_now tests.0 in
         let rules_few : rules_now ≤ 4096 = not_below 4096 rules_now tests.1 in
         let n = count in

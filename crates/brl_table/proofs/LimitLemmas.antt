@@ -1,13 +1,10 @@
 -- The limits of items hold for their definitions and their rules.
-use Rattle.std.proofs.Common.{ℕ, ◌*◌, ◌≤◌, ◌≡◌, Bool, true, false, ◌||◌, List, [], ◌∷◌, ◌++◌, length, map, nat_eq, refl, arith, ap, ◌∙◌, subst, append_assoc, Option, Some, None, length-append}
-use Rattle.std.specs.Prelude.{All, IfSome, is_some, unwrap_or}
-use Rattle.std.specs.List.{flat_map}
+use Rattle.std.proofs.Common.{ℕ, ◌*◌, ◌≤◌, ◌≡◌, true, ◌||◌, List, [], ◌∷◌, ◌++◌, length, map, nat_eq, refl, arith, ap, ◌∙◌, subst, append_assoc, Option, Some, None, length-append, All, IfSome, is_some, unwrap_or, flat_map, eq-eqb}
 use Rattle.std.specs.Cmp.{first_so, second_so}
 use Rattle.std.specs.Map.{lookup}
 use Rattle.std.proofs.lemmas.List.{length-map}
 use Rattle.std.proofs.lemmas.List.Elements.{All-nil, All-cons, All-head, All-tail, All-append, All-weaker}
 use Rattle.std.proofs.lemmas.List.Folds.{list_any-append}
-use Rattle.std.proofs.lemmas.Bool.{eq-eqb}
 use Rattle.std.proofs.lemmas.Map.Entries.{place_from_lookup}
 use Rattle.std.proofs.lemmas.Option.{get_or_from_slice_get, slice_get_within}
 use Rattle.brl_table.specs.declared.item.Definition.{Definition}
@@ -18,9 +15,8 @@ use Rattle.brl_rules.specs.declared.rule.Info.{Info}
 use Rattle.brl_table.specs.ItemLimits.{IsWithinLimits, IsItemWithinLimits, IsRuleWithinLimits}
 use Rattle.brl_rules.specs.Limits.{IsAmong, IsEntry, IsRule}
 use Rattle.brl_table.specs.Reading.{definition_in, definitions, own_cells, rule_of}
-use Rattle.brl_table.specs.Building.{over}
+use Rattle.brl_table.specs.Building.{over, is_known}
 use Rattle.brl_rules.specs.Text.{fold_of, is_defined, is_text}
-use Rattle.brl_table.specs.Building.{is_known}
 use Rattle.brl_rules.proofs.Facts.{or-true}
 
 one-within : (files : ℕ) (item : Item) → IsItemWithinLimits files item → All (IsWithinLimits files) (definition_in item)

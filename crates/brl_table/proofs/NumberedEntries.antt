@@ -1,18 +1,12 @@
 -- The numbered entries of distinct characters, with one more character or another info of one.
-use Rattle.std.proofs.Common.{ℕ, suc, ◌+◌, ◌≡◌, Bool, true, false, ◌||◌, cond, List, [], ◌∷◌, length, fold, nat_eq, refl, arith, sym, ◌∙◌, ap, Option, Some, None}
-use Rattle.std.specs.Prelude.{is_some}
+use Rattle.std.proofs.Common.{ℕ, suc, ◌+◌, ◌≡◌, Bool, true, false, ◌||◌, cond, List, [], ◌∷◌, length, fold, nat_eq, refl, arith, sym, ◌∙◌, ap, Option, Some, None, is_some, eqb-true}
 use Rattle.std.specs.List.{list_any}
 use Rattle.std.specs.Map.{lookup, set_value}
-use Rattle.std.proofs.lemmas.Bool.{eqb-true}
-use Rattle.std.proofs.lemmas.Bool.Decides.{nat_tests}
+use Rattle.std.proofs.lemmas.Bool.{or_parts}
 use Rattle.indexmap.specs.IndexMap.{insert_entry}
 use Rattle.brl_rules.specs.declared.rule.Info.{Info}
 use Rattle.brl_table.specs.Reading.{insert_new, numbered}
 use Rattle.brl_rules.proofs.Facts.{nat_eq-sym}
-
-pub neither : (a b : Bool) → a || b ≡ false → (a ≡ false) × (b ≡ false)
-neither true b h = cc
-neither false b h = (refl, h)
 
 -- ---- no character twice
 
@@ -22,7 +16,7 @@ IsSingle (x ∷ xs) = (list_any (λ y. nat_eq y x) xs ≡ false) × IsSingle xs
 
 any-put-other : (z c : ℕ) (xs : List ℕ) → nat_eq c z ≡ false → list_any (λ y. nat_eq y z) xs ≡ false → list_any (λ y. nat_eq y z) (insert_new nat_eq xs c) ≡ false
 any-put-other z c [] h k = rw h refl
-any-put-other z c (x ∷ xs) h k = cases (nat_eq c x) (neither (nat_eq x z) (list_any (λ y. nat_eq y z) xs) k) (any-put-other z c xs h)
+any-put-other z c (x ∷ xs) h k = cases (nat_eq c x) (or_parts (nat_eq x z) (list_any (λ y. nat_eq y z) xs) k) (any-put-other z c xs h)
   where
     cases : (b : Bool) → (nat_eq x z ≡ false) × (list_any (λ y. nat_eq y z) xs ≡ false) → (list_any (λ y. nat_eq y z) xs ≡ false → list_any (λ y. nat_eq y z) (insert_new nat_eq xs c) ≡ false)
         → list_any (λ y. nat_eq y z) (cond b (x ∷ xs) (x ∷ insert_new nat_eq xs c)) ≡ false
@@ -47,7 +41,7 @@ module _ (f g : ℕ → ℕ → Info) (c : ℕ) (same : (n x : ℕ) → nat_eq x
   pub numbered-same : (n : ℕ) (xs : List ℕ) → list_any (λ y. nat_eq y c) xs ≡ false → numbered f n xs ≡ numbered g n xs
   numbered-same n [] h = refl
   numbered-same n (x ∷ xs) h =
-      let p = neither (nat_eq x c) (list_any (λ y. nat_eq y c) xs) h in
+      let p = or_parts (nat_eq x c) (list_any (λ y. nat_eq y c) xs) h in
       let s = same n x p.0 in
       let m = numbered-same (n + 1) xs p.1 in
       cc (s, m)

@@ -1,7 +1,6 @@
 -- The second pass, where all lines passed the first: its faults, and the rules and the table
 -- without one.
-use Rattle.std.proofs.Common.{ℕ, zero, suc, ◌<◌, ◌≤◌, ◌≡◌, Bool, true, false, cond, inr, List, [], ◌∷◌, length, map, take, refl, arith, sym, ◌∙◌, ap, subst, Some, None, Result, Ok}
-use Rattle.std.specs.Prelude.{All, not, option_map, slice_get, if◌then◌else◌}
+use Rattle.std.proofs.Common.{ℕ, zero, suc, ◌<◌, ◌≤◌, ◌≡◌, Bool, true, false, cond, inr, List, [], ◌∷◌, length, map, take, refl, arith, sym, ◌∙◌, ap, subst, Some, None, Result, Ok, All, not, option_map, slice_get, if◌then◌else◌}
 use Rattle.std.proofs.lemmas.List.{length-map, map-append, take_all}
 use Rattle.std.proofs.lemmas.List.Elements.{All-nil, All-cons, All-head, All-tail, All-append}
 use Rattle.std.proofs.lemmas.Option.{slice_get-map, slice_get-get_or, slice_get_within}

@@ -1,6 +1,5 @@
 -- A survey against the first pass.
-use Rattle.std.proofs.Common.{ℕ, zero, suc, ◌<◌, ◌≤◌, ◌≡◌, ◌⊎◌, inl, inr, List, [], ◌∷◌, ◌++◌, length, map, take, refl, arith, sym, ap, ◌∙◌, Option, None, Some, Result, cond, append-nil}
-use Rattle.std.specs.Prelude.{slice_get, is_some, string_bytes}
+use Rattle.std.proofs.Common.{ℕ, zero, suc, ◌<◌, ◌≤◌, ◌≡◌, ◌⊎◌, inl, inr, List, [], ◌∷◌, ◌++◌, length, map, take, refl, arith, sym, ap, ◌∙◌, Option, None, Some, Result, cond, append-nil, slice_get, is_some, string_bytes}
 use Rattle.std.proofs.lemmas.Bool.{cases_order}
 use Rattle.std.proofs.lemmas.Grind.{flat_map-append}
 use Rattle.std.proofs.lemmas.List.Sums.{fold-append}

@@ -1,15 +1,14 @@
 -- One more line of a survey, in each of its passes.
-use Rattle.std.proofs.Common.{ℕ, ◌+◌, ◌≤◌, ◌≡◌, ◌≢◌, List, [], ◌∷◌, ◌++◌, length, map, take, drop, refl, sym, ap, ◌∙◌, Option, None, Some, Ok, append-nil, append_assoc, add-one}
-use Rattle.std.specs.Prelude.{flat_map, slice_get}
+use Rattle.std.proofs.Common.{ℕ, ◌+◌, ◌≡◌, ◌≢◌, List, [], ◌∷◌, ◌++◌, map, take, drop, refl, sym, ap, ◌∙◌, Option, None, Some, Ok, append_assoc, add-one, flat_map, slice_get}
 use Rattle.std.specs.List.{enumerate_from}
-use Rattle.std.proofs.lemmas.List.{drop_all, map-append, take_all}
+use Rattle.std.proofs.lemmas.List.{map-append}
 use Rattle.brl_failure.specs.declared.failure.Failure.{Failure}
 use Rattle.brl_failure.specs.declared.failure.Failure.TheVariants as failures
 use Rattle.brl_failure.specs.Failure.{IfFault}
 use Rattle.brl_lines.specs.Tokens.{LineView}
 use Rattle.brl_table.specs.Items.{Fault}
 use Rattle.brl_table.specs.Reading.{fault_after, files_of, item_in, ok_of}
-use Rattle.brl_table.specs.Survey.{FaultyLineView, IsFaultyAs, faulty_line, faulty_line_if, faulty_line_view, faulty_lines, good_items, line_fault, lines_with}
+use Rattle.brl_table.specs.Survey.{FaultyLineView, IsFaultyAs, faulty_line, faulty_line_if, faulty_line_view, good_items, line_fault, lines_with}
 use Rattle.brl_table.specs.declared.item.Item.{Item}
 use Rattle.brl_table.specs.declared.faulty.FaultyLine.{FaultyLine}
 use Rattle.brl_table.proofs.Places.{drop-at, take-at}
@@ -25,11 +24,6 @@ module _ (fault_at : ℕ → LineView → Option Fault) (lines : List LineView) 
   -- the faulty lines before a place were found
   abbrev pub AreFound : ℕ → List FaultyLine → Type 0
   AreFound place found = lines_with fault_at lines ≡ map faulty_line_view found ++ lines_from place
-
-  pub found-all : (place : ℕ) (found : List FaultyLine) → length lines ≤ place → AreFound place found → map faulty_line_view found ≡ lines_with fault_at lines
-  found-all place found past so_far =
-      let rest : lines_from place ≡ [] = ap (λ ls. flat_map (λ entry. faulty_line_if entry.1 (fault_at entry.0 entry.1)) (enumerate_from place ls)) (drop_all place lines past) in
-      sym (so_far ∙ ap (λ more. map faulty_line_view found ++ more) rest ∙ append-nil (map faulty_line_view found))
 
   module _ (place : ℕ) (line : LineView) (there : slice_get lines place ≡ Some line) (found : List FaultyLine) (so_far : AreFound place found) where
     one-more : lines_from place ≡ faulty_line_if line (fault_at place line) ++ lines_from (place + 1)
@@ -58,14 +52,6 @@ module _ (fault_at : ℕ → LineView → Option Fault) (lines : List LineView) 
 pub record IsSurveyed (lines : List LineView) (place : ℕ) (good : List Item) (found : List FaultyLine) : Type 0 where
   pub items : good ≡ good_items (files_of lines) (take place lines)
   pub faulty : AreFound (line_fault lines) lines place found
-
-pub surveyed-all : (lines : List LineView) (place : ℕ) (good : List Item) (found : List FaultyLine) → length lines ≤ place → IsSurveyed lines place good found
-    → map faulty_line_view found ≡ faulty_lines lines
-surveyed-all lines place good found past so_far = found-all (line_fault lines) lines place found past so_far.faulty
-
-pub surveyed-items : (lines : List LineView) (place : ℕ) (good : List Item) (found : List FaultyLine) → length lines ≤ place → IsSurveyed lines place good found
-    → good ≡ good_items (files_of lines) lines
-surveyed-items lines place good found past so_far = so_far.items ∙ ap (good_items (files_of lines)) (take_all place lines past)
 
 module _ (lines : List LineView) (place : ℕ) (line : LineView) (there : slice_get lines place ≡ Some line) (good : List Item) (found : List FaultyLine) (so_far : IsSurveyed lines place good found) where
   abbrev files : List (List ℕ)

@@ -1,8 +1,6 @@
 -- The second pass of a survey: the items of lines of which none has a fault by itself, and one more
 -- line.
-use Rattle.std.proofs.Common.{ℕ, suc, ◌≡◌, true, eqb, List, [], ◌∷◌, ◌++◌, length, map, take, refl, arith, sym, ap, ◌∙◌, None, Some, Result, Ok, Err}
-use Rattle.std.specs.Prelude.{slice_get}
-use Rattle.std.proofs.lemmas.Bool.{eqb-true}
+use Rattle.std.proofs.Common.{ℕ, suc, ◌≡◌, true, eqb, List, [], ◌∷◌, ◌++◌, length, map, take, refl, arith, sym, ap, ◌∙◌, None, Some, Result, Ok, Err, slice_get, eqb-true}
 use Rattle.std.proofs.lemmas.List.{length-map, take_all, nil_from_length}
 use Rattle.std.proofs.lemmas.Option.{slice_get_within}
 use Rattle.brl_failure.specs.declared.failure.Failure.{Failure}

@@ -1,6 +1,5 @@
 -- Internal. What the steps of building a table keep.
-use Rattle.std.specs.Prelude.{All, ℕ, Bool, ◌≡◌, ◌+◌, ◌≤◌, ◌<◌, true, false, ◌&&◌, ◌||◌, not, nat_eq, if◌then◌else◌, List, [], ◌∷◌, ◌++◌, length, map, slice_get, string_bytes, is_some, None, Result, Ok, Err, Some}
-use Rattle.std.specs.Int.RustNames.{bit_or}
+use Rattle.std.specs.Prelude.{All, ℕ, Bool, ◌≡◌, ◌+◌, ◌≤◌, ◌<◌, true, false, ◌&&◌, ◌||◌, not, nat_eq, if◌then◌else◌, List, [], ◌∷◌, ◌++◌, length, map, slice_get, string_bytes, is_some, None, Result, Ok, Err, Some, bit_or}
 use Rattle.std.specs.List.{list_any}
 use Rattle.indexmap.specs.IndexSet.{contains}
 use Rattle.brl_lines.specs.Tokens.{LineView}

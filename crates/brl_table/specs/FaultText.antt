@@ -1,6 +1,5 @@
 -- A fault of a line with its place, and its text. The project's own choice.
-use Rattle.std.specs.Prelude.{ℕ, List, ◌++◌, codes, string_bytes}
-use Rattle.std.specs.Fmt.{decimal}
+use Rattle.std.specs.Prelude.{ℕ, List, ◌++◌, codes, string_bytes, decimal}
 use Rattle.brl_table.specs.Items.{Fault, fault}
 use Rattle.brl_table.specs.declared.table_fault.TableFault.{TableFault}
 use Rattle.brl_table.specs.declared.table_fault.TableFaultKind.{TableFaultKind}

@@ -3,9 +3,8 @@
 -- "Braille Indicator Opcodes" and "Miscellaneous Opcodes". From the manual, too: `=` means the
 -- characters' own cells, and a comma separates the dots of two characters. The faults, their order
 -- and the limit of a rule's characters are this project's own.
-use Rattle.std.specs.Prelude.{ℕ, Bool, true, false, nat_eq, nat_lt, if◌then◌else◌, List, [], ◌∷◌, length, codes, Option, Some, None, Result, Ok, Err}
+use Rattle.std.specs.Prelude.{ℕ, Bool, true, false, nat_eq, nat_lt, if◌then◌else◌, List, [], ◌∷◌, length, codes, Option, Some, None, Result, Ok, Err, bytes_eq}
 use Rattle.std.specs.List.{list_any, before_first, after_first}
-use Rattle.std.specs.Str.{bytes_eq}
 use Rattle.brl_cells.specs.Dots.{reading}
 use Rattle.brl_failure.specs.Failure.{◌>>=◌}
 use Rattle.brl_lines.specs.Escapes.{characters_of}

@@ -1,8 +1,7 @@
 -- Whose opcode a word is: of the profile, of liblouis alone, or of neither. The table of liblouis'
 -- opcodes is the constant `OPCODES`. The project's own choice.
-use Rattle.std.specs.Prelude.{ℕ, Bool, is_some, if◌then◌else◌, nat_eq, List}
+use Rattle.std.specs.Prelude.{ℕ, Bool, is_some, if◌then◌else◌, nat_eq, List, bytes_eq}
 use Rattle.std.specs.List.{after_first, list_any}
-use Rattle.std.specs.Str.{bytes_eq}
 use Rattle.brl_table.specs.Opcodes.{entry_of, opcode_of, place_opcodes}
 use Rattle.brl_table.specs.declared.liblouis.OpcodeOrigin.{OpcodeOrigin}
 use Rattle.brl_table.specs.declared.liblouis.OpcodeOrigin.TheVariants.{Profile, Liblouis, Unknown}

@@ -6,11 +6,9 @@
 -- means the cells of its characters. Section "Braille Indicator Opcodes": the cells of the
 -- indicators, `numericmodechars` and `numericnocontchars`. Which characters are compared without
 -- case, the limits, the faults and the notices are this project's own choice.
-use Rattle.std.specs.Prelude.{ℕ, ◌≡◌, ◌+◌, ◌<◌, Bool, false, ◌||◌, ◌&&◌, not, ◌⊎◌, nat_eq, nat_lt, if◌then◌else◌, List, [], ◌∷◌, ◌++◌, length, map, filter, fold, take, position, slice_get, string_bytes, unwrap_or, Option, Some, None, is_some, Result, Ok, Err}
+use Rattle.std.specs.Prelude.{ℕ, ◌≡◌, ◌+◌, ◌<◌, Bool, false, ◌||◌, ◌&&◌, not, ◌⊎◌, nat_eq, nat_lt, if◌then◌else◌, List, [], ◌∷◌, ◌++◌, length, map, filter, fold, take, position, slice_get, string_bytes, unwrap_or, Option, Some, None, is_some, Result, Ok, Err, bit_or, bytes_eq}
 use Rattle.std.specs.List.{find, flat_map, list_any}
 use Rattle.std.specs.Option.{option_map_or, option_or}
-use Rattle.std.specs.Int.RustNames.{bit_or}
-use Rattle.std.specs.Str.{bytes_eq}
 use Rattle.brl_failure.specs.declared.failure.Failure.{Failure}
 use Rattle.brl_failure.specs.declared.failure.Failure.TheVariants as failures
 use Rattle.brl_lines.specs.Tokens.{LineView}

@@ -1,6 +1,5 @@
 //! The table that a list of lines defines.
-ghost use Rattle.std.specs.Prelude.{◌≡◌, ◌≤◌, ◌<◌, ◌∷◌, ◌++◌, [], false, All, IfOk, IfErr, List, OnOk, length, map, nat_lt, position, slice_get, vec_len, string_bytes};
-ghost use Rattle.std.specs.Str.{bytes_eq};
+ghost use Rattle.std.specs.Prelude.{◌≡◌, ◌≤◌, ◌<◌, ◌∷◌, ◌++◌, [], false, All, IfOk, IfErr, List, OnOk, length, map, nat_lt, position, slice_get, vec_len, string_bytes, bytes_eq};
 ghost use Rattle.brl_failure.specs.Failure.{IfFault};
 ghost use Rattle.brl_lines.specs.Views.{line_view};
 ghost use Rattle.brl_table.specs.Items.{item_of as item_defined};

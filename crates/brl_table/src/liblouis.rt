@@ -1,7 +1,6 @@
 //! The opcodes of liblouis, and which of them the profile has.
-ghost use Rattle.std.specs.Prelude.{◌≡◌};
+ghost use Rattle.std.specs.Prelude.{◌≡◌, bytes_eq};
 ghost use Rattle.std.specs.List.{list_any};
-ghost use Rattle.std.specs.Str.{bytes_eq};
 ghost use Rattle.brl_table.specs.Liblouis.{is_opcode, origin_if, origin_of as origin_by};
 
 use crate::opcode::{opcode_named, place_opcode};

@@ -5,9 +5,6 @@ use Rattle.brl_cells.proofs.Spelling.{mark_written, mark_left_out}
 use Rattle.brl_cells.proofs.dots.push_cell.Goals as goal
 use Rattle.brl_cells.proofs.dots.push_cell.Goals.{then-has_dot+in_ok-push, else-has_dot}
 
-pub has_dot-requires : goal.has_dot-requires
-has_dot-requires c = dot_at c.loop-mark.mark-index c.loop-mark-test.true
-
 pub loop-mark-preserved : goal.loop-mark-preserved
 loop-mark-preserved c =
     let mark = get_or dot_marks c.loop-mark.mark-index 0 in

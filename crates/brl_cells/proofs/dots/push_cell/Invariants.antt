@@ -1,5 +1,4 @@
-use Rattle.std.proofs.Common.{◌≡◌, ◌++◌, take, string_bytes}
-use Rattle.std.specs.Prelude.{filter}
+use Rattle.std.proofs.Common.{◌≡◌, ◌++◌, take, string_bytes, filter}
 use Rattle.brl_cells.specs.Dots.{has_dot, dot_marks}
 use Rattle.brl_cells.proofs.dots.push_cell.Given as goal
 

@@ -5,11 +5,8 @@ use Rattle.std.proofs.lemmas.List.{length_push}
 use Rattle.std.proofs.lemmas.Result.{err_from_is_err_and}
 use Rattle.brl_cells.specs.Dots.{parts, cell_reading, reading}
 use Rattle.brl_cells.proofs.InRange.{cells_are_read}
-use Rattle.brl_cells.proofs.Parts.{parts_none, parts_more, parts_fault, parts_all, reading_fault, reading_too_many, reading_is, parts_some, step_ok, step_fault}
+use Rattle.brl_cells.proofs.Parts.{parts_more, parts_fault, parts_all, reading_fault, reading_too_many, reading_is, parts_some, step_ok, step_fault}
 use Rattle.brl_cells.proofs.dots.read_dots.Goals as goal
-
-pub loop-marks-init : goal.loop-marks-init
-loop-marks-init c = rw c.new-cells.ensures (parts_none (parts c.args.text.now))
 
 pub loop-marks-preserved : goal.loop-marks-preserved
 loop-marks-preserved c =

@@ -1,6 +1,4 @@
-use Rattle.std.proofs.Common.{◌≡◌, ℕ, List, ap, refl, ◌∙◌}
-use Rattle.std.specs.List.{slice_get}
-use Rattle.std.specs.Option.{option_copied}
+use Rattle.std.proofs.Common.{◌≡◌, ℕ, List, ap, refl, ◌∙◌, slice_get, option_copied}
 use Rattle.brl_cells.specs.Marks.{ascii_mark, braille_ascii}
 use Rattle.brl_cells.specs.declared.marks.TheConstants.{ASCII_MARKS}
 use Rattle.brl_cells.proofs.Tables.{looked_up, unmarked}

@@ -1,5 +1,4 @@
-use Rattle.std.proofs.Common.{◌∙◌, ap, flat_map, sym}
-use Rattle.std.proofs.lemmas.List.{map-id}
+use Rattle.std.proofs.Common.{◌∙◌, ap, flat_map, sym, map-id}
 use Rattle.std.proofs.lemmas.Iterator.{YieldsList-from_chars}
 use Rattle.std.proofs.lemmas.Iterator.Consumers.{YieldsList-end}
 use Rattle.brl_explain.specs.Details.{unclear_spelling}

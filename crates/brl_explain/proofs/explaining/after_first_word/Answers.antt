@@ -1,6 +1,5 @@
-use Rattle.std.proofs.Common.{◌≡◌, ◌∙◌, ◌+◌, [], List, ℕ, Option, None, Some, Bor, ap, arith, drop, lit<, sym, length}
+use Rattle.std.proofs.Common.{◌≡◌, ◌∙◌, ◌+◌, [], List, ℕ, Option, None, Some, Bor, ap, arith, drop, lit<, sym, length, MatchOption}
 use Rattle.std.specs.List.{after_first}
-use Rattle.std.specs.Option.{MatchOption}
 use Rattle.std.proofs.lemmas.List.{drop_all}
 use Rattle.std.proofs.lemmas.Str.Pattern.{IsSplitOnceResult, split_once_first}
 use Rattle.brl_explain.specs.Explaining.{is_blank}

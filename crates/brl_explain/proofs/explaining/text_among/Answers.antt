@@ -1,5 +1,4 @@
-use Rattle.std.proofs.Common.{◌≡◌, ◌∙◌, ℕ, Bool, true, false, Bor, List, [], ◌∷◌, Some, ap, cond, map, option_map, refl}
-use Rattle.std.specs.List.{find}
+use Rattle.std.proofs.Common.{◌≡◌, ◌∙◌, ℕ, Bool, true, false, Bor, List, [], ◌∷◌, Some, ap, cond, map, option_map, refl, find}
 use Rattle.brl_explain.specs.Explaining.{explains}
 use Rattle.brl_explain.proofs.explaining.text_among.Goals as goal
 

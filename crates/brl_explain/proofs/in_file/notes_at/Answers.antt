@@ -1,5 +1,4 @@
-use Rattle.std.proofs.Common.{◌≡◌, ℕ, List, [], Some, Result, Ok, Err, IfOk, String, string_bytes, inr, refl}
-use Rattle.std.specs.Global.{Global}
+use Rattle.std.proofs.Common.{◌≡◌, ℕ, List, [], Some, Result, Ok, Err, IfOk, String, string_bytes, inr, refl, Global}
 use Rattle.brl_lines.specs.Answer.{FileAnswers}
 use Rattle.brl_lines.specs.Lines.{LocationView, Refusal}
 use Rattle.brl_lines.specs.Outcome.{IsRefusedAs}

@@ -1,5 +1,4 @@
-use Rattle.std.proofs.Common.{◌≡◌, ℕ, List, drop}
-use Rattle.std.specs.Prelude.{nat_le}
+use Rattle.std.proofs.Common.{◌≡◌, ℕ, List, drop, nat_le}
 use Rattle.brl_explain.specs.Opcodes.{edits_between}
 use Rattle.brl_explain.proofs.WordLemmas.{first_of}
 use Rattle.brl_explain.proofs.opcodes.near_word.Given as goal

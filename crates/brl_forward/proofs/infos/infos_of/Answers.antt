@@ -1,5 +1,4 @@
-use Rattle.std.proofs.Common.{◌∙◌, List, ℕ, ap, subst, sym}
-use Rattle.std.proofs.lemmas.List.{take_all}
+use Rattle.std.proofs.Common.{◌∙◌, List, ℕ, ap, subst, sym, take_all}
 use Rattle.brl_rules.specs.Infos.{AreInfosOf}
 use Rattle.brl_rules.specs.TableView.{info_of}
 use Rattle.brl_forward.proofs.UnknownChars.{first_unknown-at, text-from_infos}

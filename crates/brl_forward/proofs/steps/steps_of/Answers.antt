@@ -1,4 +1,4 @@
-use Rattle.std.proofs.Common.{◌≡◌, ◌≤◌, ◌++◌, ◌∙◌, Some, IfSome, ap, arith, length, refl, rules, sym, subst}
+use Rattle.std.proofs.Common.{◌≡◌, ◌≤◌, ◌++◌, ◌∙◌, ap, arith, length, refl, rules, sym}
 use Rattle.brl_forward.specs.Trace.{step_at}
 use Rattle.brl_forward.specs.Walk.{Takes}
 use Rattle.brl_forward.proofs.StepLoop.{no_more, none_yet, same_step, step_more}

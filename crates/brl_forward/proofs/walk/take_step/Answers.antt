@@ -1,10 +1,10 @@
-use Rattle.std.proofs.Common.{◌≡◌, ◌+◌, ◌-◌, ◌<◌, ◌≤◌, ◌++◌, ◌∙◌, List, ℕ, ap, append_assoc, arith, drop, length, length-append, length-drop, subst, sym, take}
+use Rattle.std.proofs.Common.{◌≡◌, ◌+◌, ◌-◌, ◌<◌, ◌≤◌, ◌++◌, ◌∙◌, List, ℕ, ap, append_assoc, arith, drop, length, length-append, length-drop, subst, take}
 use Rattle.std.proofs.lemmas.List.{take_rest}
 use Rattle.brl_rules.specs.Choice.{IsChoice, chosen}
 use Rattle.brl_rules.specs.Indicators.{indicators}
 use Rattle.brl_rules.specs.Infos.{first_info}
-use Rattle.brl_rules.specs.Text.{context_after_all, context_at, is_in_caps_run}
-use Rattle.brl_forward.specs.Trace.{step_at, step_before}
+use Rattle.brl_rules.specs.Text.{context_after_all, is_in_caps_run}
+use Rattle.brl_forward.specs.Trace.{step_before}
 use Rattle.brl_forward.proofs.InfoLists.{first_info-at, infos-taken, length-infos}
 use Rattle.brl_forward.proofs.WalkLemmas.{signs-known}
 use Rattle.brl_forward.proofs.walk.take_step.Goals as goal

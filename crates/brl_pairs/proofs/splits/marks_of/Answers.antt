@@ -1,11 +1,10 @@
-use Rattle.std.proofs.Common.{◌≡◌, ◌∙◌, ◌+◌, ◌-◌, ◌<◌, ◌≤◌, Bool, ℕ, List, Some, ap, arith, false, get_or, length, slice_get, subst, sym, true}
-use Rattle.std.proofs.Math.ListN.{length-set, set}
+use Rattle.std.proofs.Common.{◌≡◌, ◌∙◌, ◌+◌, ◌-◌, ◌<◌, ◌≤◌, Bool, ℕ, List, Some, ap, arith, false, get_or, length, slice_get, subst, sym, true, length-set, set}
 use Rattle.std.proofs.lemmas.List.{length-replicate}
 use Rattle.std.proofs.lemmas.Option.{slice_get-get_or, slice_get_within}
 use Rattle.brl_pairs.proofs.Numbered.{contained}
 use Rattle.brl_pairs.proofs.SortedLaws.{edge_at, is_at}
 use Rattle.brl_pairs.proofs.SplitsLaws.{AreFirstMarks, marks_as_before, marks_more}
-use Rattle.brl_pairs.proofs.splits.marks_of.Goals.{At-loop-position, then-last-gt0, else-last-gt0}
+use Rattle.brl_pairs.proofs.splits.marks_of.Goals.{then-last-gt0, else-last-gt0}
 use Rattle.brl_pairs.proofs.splits.marks_of.Goals as goal
 
 pub loop-position-init : goal.loop-position-init

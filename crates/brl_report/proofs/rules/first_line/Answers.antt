@@ -1,20 +1,18 @@
-use Rattle.std.proofs.Common.{◌∙◌, refl, sym}
-use Rattle.brl_report.specs.Rules.{is_wanted}
-use Rattle.brl_report.proofs.LineLemmas.{here, not_here, nowhere}
+use Rattle.std.proofs.Common.{◌≡◌, ◌∙◌, Bor, None, Option, Some, ap, option_map, refl, rules, sym, tests}
+use Rattle.std.proofs.lemmas.Iterator.{YieldsList-from_slice}
+use Rattle.std.proofs.lemmas.Iterator.Search.{find_from_yields_List}
+use Rattle.brl_lines.specs.Views.{line_view}
+use Rattle.brl_lines.specs.declared.line.Line.{Line}
+use Rattle.brl_report.specs.Rules.{borrowed_line_view, is_wanted}
+use Rattle.brl_report.proofs.LineLemmas.{find_in_map}
 use Rattle.brl_report.proofs.rules.first_line.Goals as goal
 
-pub loop-line-init : goal.loop-line-init
-loop-line-init c = refl
-
-pub loop-line-preserved : goal.loop-line-preserved
-loop-line-preserved c =
-    c.loop-line.invariant
-    ∙ not_here (is_wanted c.args.wanted) c.args.lines.now c.loop-line.line-index c.line-item.result c.loop-line-test.true c.line-item.is (sym c.is_wanted.ensures ∙ c.if-is_wanted.false)
-
-pub returns-then-is_wanted : goal.returns-then-is_wanted
-returns-then-is_wanted c =
-    sym (c.loop-line.invariant
-    ∙ here (is_wanted c.args.wanted) c.args.lines.now c.loop-line.line-index c.line-item.result c.loop-line-test.true c.line-item.is (sym c.is_wanted.ensures ∙ c.if-is_wanted.true))
+viewed : (found : Option (Bor Line)) → option_map borrowed_line_view found ≡ option_map line_view (option_map (λ (line : Bor Line). line.now) found)
+viewed None = refl
+viewed (Some line) = refl
 
 pub returns : goal.returns
-returns c = sym (c.loop-line.invariant ∙ nowhere (is_wanted c.args.wanted) c.args.lines.now c.loop-line.line-index c.loop-line-test.false)
+returns c =
+    viewed c.find.result
+    ∙ ap (option_map line_view) (find_from_yields_List (λ (line : Line). is_wanted c.args.wanted (line_view line)) _ _ _ c.find.ensures.ran (YieldsList-from_slice c.args.lines.now c.iter.ensures.rest) (λ x b q k. search (rules, tests)))
+    ∙ sym (find_in_map (is_wanted c.args.wanted) line_view c.args.lines.now)

@@ -1,5 +1,4 @@
-use Rattle.std.proofs.Common.{◌∙◌, ℕ, Bor, List, rules, sym, tests}
-use Rattle.std.specs.Str.{bytes_eq}
+use Rattle.std.proofs.Common.{◌∙◌, ℕ, Bor, List, rules, sym, tests, bytes_eq}
 use Rattle.std.proofs.lemmas.Iterator.{YieldsList-from_slice}
 use Rattle.std.proofs.lemmas.Iterator.Search.{any_from_yields_List}
 use Rattle.brl_report.proofs.Mapped.{any_of_map}

@@ -1,5 +1,4 @@
-use Rattle.std.proofs.Common.{◌≡◌, ◌++◌, flat_map, map, string_bytes, take}
-use Rattle.std.specs.Prelude.{codes}
+use Rattle.std.proofs.Common.{◌≡◌, ◌++◌, flat_map, map, string_bytes, take, codes}
 use Rattle.brl_lines.specs.Tokens.{TokenView}
 use Rattle.brl_lines.specs.Views.{token_view}
 use Rattle.brl_report.proofs.rules.push_words.Given as goal

@@ -1,5 +1,4 @@
-use Rattle.std.proofs.Common.{List, ℕ}
-use Rattle.std.specs.Prelude.{IsTrue}
+use Rattle.std.proofs.Common.{List, ℕ, IsTrue}
 use Rattle.brl_forward.specs.Faults.{IsFaultOf}
 use Rattle.brl_forward.specs.declared.fault.ForwardFault.{ForwardFault}
 use Rattle.brl_forward.specs.declared.fault.ForwardFault.TheVariants.{UnknownChar}

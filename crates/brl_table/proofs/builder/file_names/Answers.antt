@@ -1,6 +1,4 @@
-use Rattle.std.proofs.Common.{◌∙◌, ap, sym, map, take, string_bytes}
-use Rattle.std.specs.Prelude.{position}
-use Rattle.std.specs.Str.{bytes_eq}
+use Rattle.std.proofs.Common.{◌∙◌, ap, sym, map, take, string_bytes, position, bytes_eq}
 use Rattle.brl_lines.specs.Views.{line_view}
 use Rattle.brl_table.specs.Reading.{files_of}
 use Rattle.brl_table.proofs.FileNames.{next-file, next-new_file, lines-more}

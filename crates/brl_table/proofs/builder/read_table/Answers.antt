@@ -1,6 +1,4 @@
-use Rattle.std.proofs.Common.{◌≡◌, ◌∙◌, ap, subst, length, map, string_bytes, vec_len, arith}
-use Rattle.std.specs.Prelude.{All}
-use Rattle.std.specs.Global.{Global}
+use Rattle.std.proofs.Common.{◌≡◌, ◌∙◌, ap, subst, length, map, string_bytes, vec_len, arith, All, Global}
 use Rattle.std.proofs.lemmas.List.{length-map}
 use Rattle.brl_lines.specs.Views.{line_view}
 use Rattle.brl_table.specs.ItemLimits.{IsItemWithinLimits}

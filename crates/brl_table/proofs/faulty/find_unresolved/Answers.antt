@@ -1,5 +1,4 @@
-use Rattle.std.proofs.Common.{◌≡◌, ◌<◌, ◌+◌, ◌∙◌, List, Ok, Some, ap, arith, length, map, subst, sym, vec_len}
-use Rattle.std.specs.Prelude.{slice_get}
+use Rattle.std.proofs.Common.{◌≡◌, ◌<◌, ◌+◌, ◌∙◌, List, Ok, Some, ap, arith, length, map, subst, sym, vec_len, slice_get}
 use Rattle.std.proofs.lemmas.List.{length-map}
 use Rattle.brl_failure.specs.Raised.{if_fault-weaker}
 use Rattle.brl_lines.specs.Views.{line_view}

@@ -1,6 +1,4 @@
-use Rattle.std.proofs.Common.{◌≡◌, ◌∙◌, List, ℕ, Option, None, Some, Bor, ap, refl, lit<, sym}
-use Rattle.std.specs.Prelude.{is_some}
-use Rattle.std.specs.Option.{MatchOption}
+use Rattle.std.proofs.Common.{◌≡◌, ◌∙◌, List, ℕ, Option, None, Some, Bor, ap, refl, lit<, sym, is_some, MatchOption}
 use Rattle.std.proofs.lemmas.Str.Pattern.{IsSplitOnceResult, split_once_first}
 use Rattle.brl_table.specs.Liblouis.{is_blank, origin_if, origin_of}
 use Rattle.brl_table.specs.Opcodes.{entry_of, opcode_of, place_opcodes}

@@ -1,5 +1,4 @@
-use Rattle.std.proofs.Common.{◌∙◌, List, ℕ, get_or, subst, arith}
-use Rattle.std.proofs.lemmas.List.{take_all}
+use Rattle.std.proofs.Common.{◌∙◌, List, ℕ, get_or, subst, arith, take_all}
 use Rattle.std.proofs.lemmas.Option.{slice_get-get_or}
 use Rattle.brl_pairs.specs.Excused.{AreLookedUp}
 use Rattle.brl_pairs.proofs.Excusing.{looked_up_too}

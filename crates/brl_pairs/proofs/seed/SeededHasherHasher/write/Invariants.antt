@@ -1,5 +1,4 @@
-use Rattle.std.proofs.Common.{◌≡◌, take}
-use Rattle.std.specs.List.{fold}
+use Rattle.std.proofs.Common.{◌≡◌, take, fold}
 use Rattle.brl_pairs.specs.Seed.{after_number}
 use Rattle.brl_pairs.proofs.seed.SeededHasherHasher.write.Given as goal
 

@@ -1,5 +1,4 @@
-use Rattle.std.proofs.Common.{◌≡◌, ◌∙◌, ◌++◌, ◌==◌, if◌then◌else◌, ℕ, List, Option, [], ap, append-nil, append_assoc, eq-eqb, map, ne_eqb, refl, sym}
-use Rattle.std.specs.Prelude.{codes, string_bytes}
+use Rattle.std.proofs.Common.{◌≡◌, ◌∙◌, ◌++◌, ◌==◌, if◌then◌else◌, ℕ, List, Option, [], ap, append-nil, append_assoc, codes, eq-eqb, map, ne_eqb, refl, string_bytes, sym}
 use Rattle.std.specs.Option.{option_map_or}
 use Rattle.std.proofs.lemmas.Result.{on_ok_weaker}
 use Rattle.brl_lines.specs.Views.{line_view}

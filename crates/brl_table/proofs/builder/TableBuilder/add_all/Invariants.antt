@@ -1,5 +1,4 @@
-use Rattle.std.proofs.Common.{◌≡◌, Ok, length, map, take}
-use Rattle.std.specs.Prelude.{All}
+use Rattle.std.proofs.Common.{◌≡◌, Ok, length, map, take, All}
 use Rattle.brl_lines.specs.Views.{line_view}
 use Rattle.brl_table.specs.ItemLimits.{IsItemWithinLimits}
 use Rattle.brl_table.specs.Reading.{first_pass_fault, files_of, item_in, PassesBefore}

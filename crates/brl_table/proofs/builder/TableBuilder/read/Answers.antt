@@ -1,5 +1,4 @@
-use Rattle.std.proofs.Common.{◌≡◌, ◌∙◌, ap, sym, subst, length, map, arith, Result, Ok, Err}
-use Rattle.std.specs.Prelude.{All, IfErr, IfOk}
+use Rattle.std.proofs.Common.{◌≡◌, ◌∙◌, ap, sym, subst, length, map, arith, Result, Ok, Err, All, IfErr, IfOk}
 use Rattle.std.proofs.lemmas.List.{length-map}
 use Rattle.brl_lines.specs.Views.{line_view}
 use Rattle.brl_rules.specs.Limits.{IsRule}

@@ -1,5 +1,4 @@
-use Rattle.std.proofs.Common.{◌++◌, ◌∷◌, [], ◌∙◌, ap, sym, refl, append-nil}
-use Rattle.brl_table.specs.Reading.{notice_of}
+use Rattle.std.proofs.Common.{◌∙◌, sym, refl, append-nil}
 use Rattle.brl_table.proofs.DefinitionSteps.{represents-more}
 use Rattle.brl_table.proofs.characters.Characters.define.Goals as goal
 

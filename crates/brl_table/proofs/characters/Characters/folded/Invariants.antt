@@ -1,5 +1,4 @@
-use Rattle.std.proofs.Common.{◌≡◌, map, take}
-use Rattle.std.specs.Prelude.{IsTrue}
+use Rattle.std.proofs.Common.{◌≡◌, map, take, IsTrue}
 use Rattle.brl_table.specs.Building.{over}
 use Rattle.brl_rules.specs.Text.{fold_of, is_text}
 use Rattle.brl_table.proofs.characters.Characters.folded.Given as goal

@@ -1,5 +1,4 @@
-use Rattle.std.proofs.Common.{◌≡◌, take}
-use Rattle.std.specs.List.{flat_map}
+use Rattle.std.proofs.Common.{◌≡◌, take, flat_map}
 use Rattle.brl_table.specs.Reading.{own_cells}
 use Rattle.brl_table.specs.Building.{over}
 use Rattle.brl_table.proofs.characters.Characters.own_cells.Given as goal
