@@ -78,11 +78,6 @@ module _ (t : TableView) (left_out : List ℕ) (limit : ℕ) where
   of_table : (found : ClashList) → AreClashes left_out t limit found → AreClashesOf t (clashes_of found)
   of_table found are = λ k d within. ((rule_clashes found are).each k d within).clash.clash
 
--- the texts of each section's clashes clash by the table
-pub are_clashes : (t : TableView) (left_out : List ℕ) (limit : ℕ) (sections : List Section) → AreSections t left_out limit sections → All (λ s. AreClashesOf t (clashes_of s.found)) sections
-are_clashes t left_out limit sections are = λ k d within.
-    of_table t (left_out_in t left_out k) limit (get_or sections k d).found (are.each k (get_or sections k d) (slice_get-get_or sections k d within)).clashes
-
 -- ---- A table without clashes
 
 -- no pair of rules is one of none

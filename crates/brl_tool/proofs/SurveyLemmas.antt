@@ -4,7 +4,7 @@ use Rattle.std.specs.Prelude.{flat_map, is_some}
 use Rattle.std.specs.List.{list_all, list_any}
 use Rattle.std.proofs.lemmas.Grind.{flat_map-append}
 use Rattle.std.proofs.lemmas.List.{map-append}
-use Rattle.std.proofs.lemmas.List.Elements.{All-nil, All-push}
+use Rattle.std.proofs.lemmas.List.Elements.{All-push}
 use Rattle.std.proofs.lemmas.List.Folds.{list_all-append, list_any-append}
 use Rattle.brl_lines.specs.Answer.{FileAnswers}
 use Rattle.brl_lines.specs.declared.fault.LoadFault.{LoadFault}
@@ -20,9 +20,6 @@ pub record IsSoFar (brief : Bool) (gives : FileAnswers) (several : Bool) (paths 
   pub are : All (IsPart brief gives) parts
   pub text_is : text ≡ flat_map (text_of_part several) parts
   pub status_is : status ≡ survey_status parts
-
-pub none-yet : (brief : Bool) (gives : FileAnswers) (several : Bool) → IsSoFar brief gives several [] [] Done
-none-yet brief gives several = record { parts = []; named = refl; are = All-nil (IsPart brief gives); text_is = refl; status_is = refl }
 
 -- the same of equal paths, texts and statuses
 pub so-far-moved : (brief : Bool) (gives : FileAnswers) (several : Bool) {paths paths' : List (List ℕ)} {text text' : List ℕ} {status status' : Status} → paths' ≡ paths → text' ≡ text → status' ≡ status
