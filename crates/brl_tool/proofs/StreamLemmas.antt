@@ -1,5 +1,5 @@
 -- The line of a character that is listed as lacking.
-use Rattle.std.proofs.Common.{◌≡◌, append_assoc, ℕ, List, [], ◌∷◌, ◌++◌, codes, refl, sym}
+use Rattle.std.proofs.Common.{◌≡◌, ◌∙◌, append_assoc, ℕ, List, [], ◌∷◌, ◌++◌, codes, refl, sym}
 use Rattle.std.specs.Fmt.{decimal}
 use Rattle.std.specs.Str.{encode_utf8_all}
 use Rattle.brl_lines.specs.Visible.{visible_text}
