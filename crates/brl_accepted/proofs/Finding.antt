@@ -8,7 +8,7 @@ use Rattle.brl_accepted.specs.Reading.{Named, Names, kept_by, named_by, stale_by
 use Rattle.brl_accepted.specs.Words.{AreFound, named_view}
 use Rattle.brl_accepted.specs.declared.fault.ExcuseFaultKind.{ExcuseFaultKind}
 use Rattle.brl_accepted.specs.declared.lines.Named.{Named as Line}
-use Rattle.brl_accepted.specs.declared.reading.Found.{Found}
+use Rattle.brl_accepted.specs.declared.reading.NamedLines.{NamedLines}
 use Rattle.brl_accepted.proofs.ListLemmas.{flat_map_push}
 
 -- a line more has the next number
@@ -21,7 +21,7 @@ numbered_from_0 xs x = numbered 0 xs x ∙ ap (λ m. enumerate_from 0 xs ++ (m, 
 
 module _ (names : Names) (list : Option (List (ℕ × ℕ))) (path : List ℕ) where
   -- one more line
-  found_push : (all : List (List ℕ)) (line : List ℕ) (place : ℕ) (old new : Found) (named : Line) → length all ≡ place → AreFound names list path all old → named_view named ≡ named_by names list line
+  found_push : (all : List (List ℕ)) (line : List ℕ) (place : ℕ) (old new : NamedLines) (named : Line) → length all ≡ place → AreFound names list path all old → named_view named ≡ named_by names list line
       → new.pairs.items ≡ old.pairs.items ++ named.pairs.items → map (λ set. set.items) new.sets.items ≡ map (λ set. set.items) old.sets.items ++ named.set.items ∷ []
       → map fault_view new.stale.items ≡ map fault_view old.stale.items ++ stale_by named.fault path (place, line) → string_bytes new.kept ≡ string_bytes old.kept ++ kept_by named.fault line
       → AreFound names list path (all ++ line ∷ []) new
@@ -35,7 +35,7 @@ module _ (names : Names) (list : Option (List (ℕ × ℕ))) (path : List ℕ) w
         kept = kept ∙ (λ i. so_far.kept i ++ kept_by (fault i) line) ∙ sym (flat_map_push (λ l. kept_by (named_by names list l).fault l) all line);
       }
 
-  pub found_more : (all : List (List ℕ)) (line : List ℕ) (place : ℕ) (old new : Found) (named : Line) → place < length all → get_or all place [] ≡ line → AreFound names list path (take place all) old
+  pub found_more : (all : List (List ℕ)) (line : List ℕ) (place : ℕ) (old new : NamedLines) (named : Line) → place < length all → get_or all place [] ≡ line → AreFound names list path (take place all) old
       → named_view named ≡ named_by names list line → new.pairs.items ≡ old.pairs.items ++ named.pairs.items → map (λ set. set.items) new.sets.items ≡ map (λ set. set.items) old.sets.items ++ named.set.items ∷ []
       → map fault_view new.stale.items ≡ map fault_view old.stale.items ++ stale_by named.fault path (place, line) → string_bytes new.kept ≡ string_bytes old.kept ++ kept_by named.fault line
       → AreFound names list path (take (place + 1) all) new

@@ -11,7 +11,7 @@ use Rattle.brl_accepted.specs.Pairs.{between, said}
 use Rattle.brl_accepted.specs.Reading.{Named, Names, kept_by, named_by, stale_by}
 use Rattle.brl_accepted.specs.declared.lines.Named.{Named as Line}
 use Rattle.brl_accepted.specs.declared.lines.Reader.{Reader}
-use Rattle.brl_accepted.specs.declared.reading.Found.{Found}
+use Rattle.brl_accepted.specs.declared.reading.NamedLines.{NamedLines}
 use Rattle.brl_report.specs.Rules.{rule_numbers}
 
 -- bytes have no blank
@@ -77,7 +77,7 @@ pub record IsIndexed (reader : Reader) : Type 0 where
   pub index : IsIndex (map string_bytes reader.words.now) (rule_numbers reader.known.table.now) reader.index.now
 
 -- what lines of the file at a path name, and which of them are stale
-pub record AreFound (names : Names) (list : Option (List (ℕ × ℕ))) (path : List ℕ) (all : List (List ℕ)) (found : Found) : Type 0 where
+pub record AreFound (names : Names) (list : Option (List (ℕ × ℕ))) (path : List ℕ) (all : List (List ℕ)) (found : NamedLines) : Type 0 where
   pub pairs : found.pairs.items ≡ flat_map (λ line. (named_by names list line).pairs) all
   pub sets : map (λ set. set.items) found.sets.items ≡ map (λ line. (named_by names list line).set) all
   pub stale : map fault_view found.stale.items ≡ flat_map (λ row. stale_by (named_by names list row.1).fault path row) (enumerate_from 0 all)

@@ -129,7 +129,7 @@ pub fn read_excusal<'a>(
     let rows = rows_of(alloc, text)?;
     let found = found_in(alloc, known, words.as_slice(), list, path, rows.as_slice())?;
     let excused = excused_by_found(alloc, known.table, &found)?;
-    let Found {
+    let NamedLines {
         sets,
         stale,
         kept,
@@ -151,7 +151,7 @@ fn found_in<'a>(
     list: Option<&'a RulePairs>,
     path: &str,
     rows: &[&str],
-) -> Result<Found, AllocError>
+) -> Result<NamedLines, AllocError>
     requires { map string_bytes words.now ≡ (names_of known).words }
     ensures { IfOk result (AreFound (names_of known.entry) (option_copied list.entry) path.now (map (λ row. row.now) rows.now)) }
 {
@@ -167,7 +167,7 @@ fn found_in<'a>(
 }
 
 /// What lines excuse of a table by what they name.
-fn excused_by_found(alloc: Global, table: &Table, found: &Found) -> Result<Excused, AllocError>
+fn excused_by_found(alloc: Global, table: &Table, found: &NamedLines) -> Result<Excused, AllocError>
     ensures accepted { IfOk result (λ excused. excused.accepted ≡ found.now.pairs.items) }
     ensures exchanged { IfOk result (λ excused. excused.exchanged ≡ pairs_in_sets table.now (map (λ set. set.items) found.now.sets.items)) }
 {
@@ -196,7 +196,7 @@ fn lines_of(alloc: Global, text: &str) -> Result<Vec<&str>, AllocError>
 /// What lines name: the pairs of rules, the set of each, and the stale ones; and the text of the
 /// others.
 #[derive(Drop)]
-pub(crate) struct Found {
+pub(crate) struct NamedLines {
     pub pairs: Vec<(u32, u32)>,
     pub sets: Vec<Vec<char>>,
     pub stale: Vec<ExcuseFault>,
@@ -209,11 +209,11 @@ fn read_rows(
     reader: Reader<'_, '_, '_>,
     path: &str,
     rows: &[&str],
-) -> Result<Found, AllocError>
+) -> Result<NamedLines, AllocError>
     requires { IsIndexed reader }
     ensures { IfOk result (AreFound (names_read reader.entry) (list_of reader.entry) path.now (map (λ row. row.now) rows.now)) }
 {
-    let mut found = Found {
+    let mut found = NamedLines {
         pairs: Vec::new(alloc),
         sets: Vec::new(alloc),
         stale: Vec::new(alloc),
@@ -226,7 +226,7 @@ fn read_rows(
     Ok(found)
 }
 
-impl Found {
+impl NamedLines {
     /// Adds what the line at a place of the file at a path names.
     fn push(
         &mut self,

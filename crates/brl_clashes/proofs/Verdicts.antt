@@ -15,7 +15,7 @@ use Rattle.brl_clashes.specs.ListedPairs.{has_pair, is_pair}
 use Rattle.brl_clashes.specs.Sections.{AreClashesOf, AreSections, are_whole, clashes_beside, clashes_of, is_whole, lists_none, outcome_of}
 use Rattle.brl_clashes.specs.declared.kind.Kind.{Kind}
 use Rattle.brl_clashes.specs.declared.section.Section.{Section}
-use Rattle.brl_clashes.specs.declared.verdict.Outcome.TheVariants.{Unambiguous, Clashing, Unfinished}
+use Rattle.brl_clashes.specs.declared.verdict.ListOutcome.TheVariants.{Unambiguous, Clashing, Unfinished}
 use Rattle.brl_rules.specs.TableView.{TableView}
 use Rattle.brl_pairs.specs.Divergence.{are_rules, has_rules}
 use Rattle.brl_rules.specs.Translation.{IsClash}

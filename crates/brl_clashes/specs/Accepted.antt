@@ -5,8 +5,8 @@ use Rattle.brl_accepted.specs.Counting.{but_for_line}
 use Rattle.brl_clashes.specs.Sections.{clashes_beside}
 use Rattle.brl_clashes.specs.declared.accepted.Taken.{Taken}
 use Rattle.brl_clashes.specs.declared.section.Section.{Section}
-use Rattle.brl_clashes.specs.declared.verdict.Outcome.{Outcome}
-use Rattle.brl_clashes.specs.declared.verdict.Outcome.TheVariants.{Unambiguous, Clashing}
+use Rattle.brl_clashes.specs.declared.verdict.ListOutcome.{ListOutcome}
+use Rattle.brl_clashes.specs.declared.verdict.ListOutcome.TheVariants.{Unambiguous, Clashing}
 use Rattle.brl_search.specs.declared.table_clashes.ClashList.{ClashList}
 use Rattle.brl_search.specs.declared.table_clashes.ClashList.TheVariants.{Complete, Partial}
 
@@ -34,7 +34,7 @@ AreLeftOf accepted sections left = ⊥
 -- The outcome of sections from which this many accepted pairs were left out, where theirs is this:
 -- where pairs are accepted, the table isn't unambiguous; as many pairs as are left diverge, which
 -- may be none.
-abbrev pub outcome_beside : ℕ → Outcome → Outcome
+abbrev pub outcome_beside : ℕ → ListOutcome → ListOutcome
 outcome_beside accepted Unambiguous = if accepted == 0 then Unambiguous else Clashing
 outcome_beside accepted outcome = outcome
 

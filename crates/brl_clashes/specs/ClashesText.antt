@@ -12,8 +12,8 @@ use Rattle.brl_clashes.specs.Sections.{listed_after, listed_pairs, outcome_of}
 use Rattle.brl_clashes.specs.Sets.{openers, plain, set_among}
 use Rattle.brl_clashes.specs.declared.accepted.Taken.{Taken}
 use Rattle.brl_clashes.specs.declared.section.Section.{Section}
-use Rattle.brl_clashes.specs.declared.verdict.Outcome.{Outcome}
-use Rattle.brl_clashes.specs.declared.verdict.Outcome.TheVariants.{Unambiguous, Clashing, Unfinished}
+use Rattle.brl_clashes.specs.declared.verdict.ListOutcome.{ListOutcome}
+use Rattle.brl_clashes.specs.declared.verdict.ListOutcome.TheVariants.{Unambiguous, Clashing, Unfinished}
 use Rattle.brl_lines.specs.Tokens.{LineView}
 use Rattle.brl_rules.specs.TableView.{TableView, info_of}
 use Rattle.brl_search.specs.declared.table_clashes.ClashList.{ClashList}
@@ -64,19 +64,19 @@ pairs_line taken count whole = decimal count ++ (pairs_words count ++ (others_no
 
 -- the counts that are reported: of a table that is unambiguous, and those at which a limit was
 -- passed
-abbrev pub verdict_counts : Outcome → List Section → List ℕ
+abbrev pub verdict_counts : ListOutcome → List Section → List ℕ
 verdict_counts Unambiguous sections = last_counts (codes "unambiguous") sections
 verdict_counts Clashing sections = []
 verdict_counts Unfinished sections = last_counts (codes "limit") sections
 
 -- how many pairs of rules diverge, where some are listed
-abbrev pub verdict_pairs : Bool → Outcome → ℕ → List ℕ
+abbrev pub verdict_pairs : Bool → ListOutcome → ℕ → List ℕ
 verdict_pairs taken Unambiguous count = []
 verdict_pairs taken Clashing count = pairs_line taken count true
 verdict_pairs taken Unfinished count = pairs_line taken count false
 
 -- the last lines for this outcome: the table is unambiguous, or this many pairs of rules diverge
-abbrev pub outcome_text : Bool → Outcome → List Section → List ℕ
+abbrev pub outcome_text : Bool → ListOutcome → List Section → List ℕ
 outcome_text taken outcome sections = verdict_counts outcome sections ++ verdict_pairs taken outcome (length (listed_pairs sections))
 
 -- the verdict lines of a list with these sections; where a file was read, the list leaves out the

@@ -5,8 +5,8 @@ use Rattle.std.specs.List.{filter, fold, list_all}
 use Rattle.brl_clashes.specs.Kinds.{left_out_in, section_kinds}
 use Rattle.brl_clashes.specs.ListedPairs.{has_pair}
 use Rattle.brl_clashes.specs.declared.section.Section.{Section}
-use Rattle.brl_clashes.specs.declared.verdict.Outcome.{Outcome}
-use Rattle.brl_clashes.specs.declared.verdict.Outcome.TheVariants.{Unambiguous, Clashing, Unfinished}
+use Rattle.brl_clashes.specs.declared.verdict.ListOutcome.{ListOutcome}
+use Rattle.brl_clashes.specs.declared.verdict.ListOutcome.TheVariants.{Unambiguous, Clashing, Unfinished}
 use Rattle.brl_rules.specs.TableView.{TableView}
 use Rattle.brl_rules.specs.Translation.{IsClash}
 use Rattle.brl_search.specs.Clashes.{AreClashes, rules_of_clashes}
@@ -55,7 +55,7 @@ abbrev pub listed_pairs : List Section → List (ℕ × ℕ)
 listed_pairs sections = fold listed_after [] sections
 
 -- the outcome of sections: there is no pair of rules; or these, and no others; or maybe others
-abbrev pub outcome_of : List Section → Outcome
+abbrev pub outcome_of : List Section → ListOutcome
 outcome_of sections =
     if are_whole sections then (if list_none sections then Unambiguous else Clashing) else Unfinished
 

@@ -33,4 +33,4 @@ pub use kind::Kind;
 pub use section::Section;
 pub use sections::list_sections;
 pub use sets::character_sets;
-pub use verdict::{Outcome, are_whole, outcome_of};
+pub use verdict::{ListOutcome, are_whole, outcome_of};

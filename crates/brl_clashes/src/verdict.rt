@@ -21,7 +21,7 @@ use std::alloc::{AllocError, Global};
 
 /// The outcome of the sections of a list.
 #[derive(Clone, Copy)]
-pub enum Outcome {
+pub enum ListOutcome {
     /// No pair of rules is listed, and no texts clash.
     Unambiguous,
     /// The pairs of rules that are listed diverge, and no others.
@@ -31,25 +31,25 @@ pub enum Outcome {
 }
 
 /// The outcome of these sections.
-pub fn outcome_of(sections: &[Section]) -> Outcome
+pub fn outcome_of(sections: &[Section]) -> ListOutcome
     ensures { result ≡ outcome_of_sections sections.now }
 {
     if !are_whole(sections) {
-        return Outcome::Unfinished;
+        return ListOutcome::Unfinished;
     }
     if !list_none(sections) {
-        return Outcome::Clashing;
+        return ListOutcome::Clashing;
     }
-    Outcome::Unambiguous
+    ListOutcome::Unambiguous
 }
 
 /// The outcome for a table whose sections have this one after this many accepted pairs of rules
 /// were left out. Where some were, the table isn't unambiguous, also where no pair is left.
-pub fn outcome_beside(accepted: usize, outcome: Outcome) -> Outcome
+pub fn outcome_beside(accepted: usize, outcome: ListOutcome) -> ListOutcome
     ensures { result ≡ said_outcome accepted outcome }
 {
     match outcome {
-        Outcome::Unambiguous if accepted > 0 => Outcome::Clashing,
+        ListOutcome::Unambiguous if accepted > 0 => ListOutcome::Clashing,
         other => other,
     }
 }
@@ -106,15 +106,15 @@ fn list_none(sections: &[Section]) -> bool
 /// The counts that are reported of an outcome of sections, and empty where none are.
 pub fn verdict_counts(
     alloc: Global,
-    outcome: Outcome,
+    outcome: ListOutcome,
     sections: &[Section],
 ) -> Result<String, AllocError>
     ensures { IfOk result (λ text. string_bytes text ≡ counts_of_verdict outcome sections.now) }
 {
     match outcome {
-        Outcome::Unambiguous => last_counts(alloc, "unambiguous", sections),
-        Outcome::Clashing => Ok(String::new(alloc)),
-        Outcome::Unfinished => last_counts(alloc, "limit", sections),
+        ListOutcome::Unambiguous => last_counts(alloc, "unambiguous", sections),
+        ListOutcome::Clashing => Ok(String::new(alloc)),
+        ListOutcome::Unfinished => last_counts(alloc, "limit", sections),
     }
 }
 
@@ -146,15 +146,15 @@ fn counts_of(alloc: Global, word: &str, found: &ClashList) -> Result<String, All
 pub fn verdict_pairs(
     alloc: Global,
     taken: bool,
-    outcome: Outcome,
+    outcome: ListOutcome,
     count: usize,
 ) -> Result<String, AllocError>
     ensures { IfOk result (λ text. string_bytes text ≡ pairs_of_verdict taken outcome count) }
 {
     match outcome {
-        Outcome::Unambiguous => Ok(String::new(alloc)),
-        Outcome::Clashing => pairs_line(alloc, taken, count, true),
-        Outcome::Unfinished => pairs_line(alloc, taken, count, false),
+        ListOutcome::Unambiguous => Ok(String::new(alloc)),
+        ListOutcome::Clashing => pairs_line(alloc, taken, count, true),
+        ListOutcome::Unfinished => pairs_line(alloc, taken, count, false),
     }
 }
 

@@ -11,12 +11,12 @@ use Rattle.brl_divergence.specs.Expanded.{AreExpanded, AreTwoEdges}
 use Rattle.brl_divergence.specs.Found.{AreSettledAt, IsExplored, IsOfSplit}
 use Rattle.brl_divergence.specs.Listed.{rules_of}
 use Rattle.brl_divergence.specs.declared.expanded.Expanded.{Expanded}
-use Rattle.brl_divergence.specs.declared.found.Found.{Found}
+use Rattle.brl_divergence.specs.declared.found.FoundSoFar.{FoundSoFar}
 use Rattle.brl_divergence.proofs.Splits.{added_come, one_rule, other_rule}
 use Rattle.brl_divergence.proofs.Trails.{active_same, ends_added, taken_origins, taken_pairs, walked_same}
 
 -- the steps of two edges whose pair of rules is listed are settled
-pub settled_by_list : {S : Type 0} (m : Behaviour S) (it : Found S) (cells : List (List ℕ)) (number : ℕ) (x y : SortedEdge) (rules : ℕ × ℕ)
+pub settled_by_list : {S : Type 0} (m : Behaviour S) (it : FoundSoFar S) (cells : List (List ℕ)) (number : ℕ) (x y : SortedEdge) (rules : ℕ × ℕ)
     → AreTwoEdges m it.trail.states cells number x y rules → Contains (rules_of it.list) rules → AreSettledAt m it number x.place y.place
 settled_by_list m it cells number x y rules two there s r s_taken r_taken =
     let one : rules.0 ≡ s.rule = one_rule m it.trail.states cells number x y rules two s s_taken in

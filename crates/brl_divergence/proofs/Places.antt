@@ -16,9 +16,9 @@ use Rattle.brl_closure.specs.Trail.{TakesStep}
 use Rattle.brl_closure.proofs.LeastRule.{found_of_earlier}
 use Rattle.brl_divergence.specs.Expanded.{AreStepsOf}
 use Rattle.brl_divergence.specs.Found.{AreSettledAt}
-use Rattle.brl_divergence.specs.declared.found.Found.{Found}
+use Rattle.brl_divergence.specs.declared.found.FoundSoFar.{FoundSoFar}
 
-module _ {S : Type 0} (m : Behaviour S) (it : Found S) (number : ℕ) (cells : List (List ℕ)) (sorted : List SortedEdge) (rules : List ℕ) (h : AreStepsOf m it.trail.states number cells sorted rules) where
+module _ {S : Type 0} (m : Behaviour S) (it : FoundSoFar S) (number : ℕ) (cells : List (List ℕ)) (sorted : List SortedEdge) (rules : List ℕ) (h : AreStepsOf m it.trail.states number cells sorted rules) where
   -- the edge of a step
   record HasEdge (place : ℕ) (x : Step S) : Type 0 where
     edge : Edge

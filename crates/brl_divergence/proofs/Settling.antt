@@ -24,23 +24,23 @@ use Rattle.brl_divergence.specs.Found.{AreSettled, AreSettledAt, IsSettledState,
 use Rattle.brl_divergence.specs.Listed.{rules_of}
 use Rattle.brl_divergence.specs.Working.{IsDone, IsExpanding, IsSettling, IsWorking}
 use Rattle.brl_divergence.specs.declared.expanded.Expanded.{Expanded}
-use Rattle.brl_divergence.specs.declared.found.Found.{Found}
+use Rattle.brl_divergence.specs.declared.found.FoundSoFar.{FoundSoFar}
 use Rattle.brl_divergence.proofs.Rules.{has_listed, has_listed_back}
 use Rattle.brl_divergence.proofs.Splits.{followed_on}
 use Rattle.brl_divergence.proofs.Steps.{rules_there}
 
 module _ {S : Type 0} where
-  pub keeps_refl : (f : Found S) → Keeps f f
+  pub keeps_refl : (f : FoundSoFar S) → Keeps f f
   keeps_refl f = record { states = refl; pairs = stays_refl f.trail.pairs; rules = λ rules h. h }
 
-  pub keeps_trans : (f g h : Found S) → Keeps f g → Keeps g h → Keeps f h
+  pub keeps_trans : (f g h : FoundSoFar S) → Keeps f g → Keeps g h → Keeps f h
   keeps_trans f g h a b = record {
     states = b.states ∙ a.states;
     pairs = stays_trans f.trail.pairs g.trail.pairs h.trail.pairs a.pairs b.pairs;
     rules = λ rules there. b.rules rules (a.rules rules there);
   }
 
-  module _ (f g : Found S) (keeps : Keeps f g) where
+  module _ (f g : FoundSoFar S) (keeps : Keeps f g) where
     pub settled_more : (x y : Step S) → AreSettled f x y → AreSettled g x y
     settled_more x y (inl h) = inl (keeps.rules (x.rule, y.rule) h)
     settled_more x y (inr h) = inr (followed_on f.trail g.trail keeps.states keeps.pairs x y h)
@@ -54,7 +54,7 @@ module _ {S : Type 0} where
 
 -- ---- Where all is done
 
-module _ {M S : Type 0} (behaviour : M → Behaviour S) (f : Finder M S) (e : Expanded) (it : Found S) (done : IsDone behaviour f e it) where
+module _ {M S : Type 0} (behaviour : M → Behaviour S) (f : Finder M S) (e : Expanded) (it : FoundSoFar S) (done : IsDone behaviour f e it) where
   -- the edges of a state
   edges_at : (k : ℕ) → k < length it.trail.states → (edges : List Edge) × AreEdges (behaviour f.machine.now) it.trail.states k edges
   edges_at k less =
@@ -98,7 +98,7 @@ module _ {M S : Type 0} (behaviour : M → Behaviour S) (f : Finder M S) (e : Ex
 
 -- ---- Steps of a listing
 
-module _ {M S P : Type 0} (behaviour : M → Behaviour S) (steps_of : M → P → List (Step S)) (f : Finder M S) (e : Expanded) (parts : PartsView P) (it : Found S) where
+module _ {M S P : Type 0} (behaviour : M → Behaviour S) (steps_of : M → P → List (Step S)) (f : Finder M S) (e : Expanded) (parts : PartsView P) (it : FoundSoFar S) where
   -- where all states are expanded and no pair is found yet, nothing is left to be walked
   pub sound_from_expanding : IsExpanding behaviour steps_of f e parts it → length it.trail.states ≤ length e.edges.items → IsSound behaviour f e it
   sound_from_expanding h all = record {
@@ -126,7 +126,7 @@ module _ {M S P : Type 0} (behaviour : M → Behaviour S) (steps_of : M → P �
   expanding_of settled (inr h) less = absurd (let all = h.sound.explored.ready.all in omega (arith, all, less))
 
 -- where the same parts are kept, or none, what holds of a listing goes on holding
-pub working_without : {M S P : Type 0} (behaviour : M → Behaviour S) (steps_of : M → P → List (Step S)) (f : Finder M S) (e : Expanded) (parts kept : PartsView P) (it : Found S) (settled : ℕ)
+pub working_without : {M S P : Type 0} (behaviour : M → Behaviour S) (steps_of : M → P → List (Step S)) (f : Finder M S) (e : Expanded) (parts kept : PartsView P) (it : FoundSoFar S) (settled : ℕ)
     → IsWorking behaviour steps_of f e parts it settled → (kept ≡ parts) ⊎ (kept ≡ no_parts) → IsWorking behaviour steps_of f e kept it settled
 working_without behaviour steps_of f e parts kept it settled (inr settling) which = inr settling
 working_without behaviour steps_of f e parts kept it settled (inl (expanding, none)) which = inl (

@@ -19,7 +19,7 @@ use Rattle.brl_divergence.specs.Answers.{IsListed}
 use Rattle.brl_divergence.specs.Expanded.{AreExpanded}
 use Rattle.brl_divergence.specs.Listed.{rules_of}
 use Rattle.brl_divergence.specs.declared.expanded.Expanded.{Expanded}
-use Rattle.brl_divergence.specs.declared.found.Found.{Found}
+use Rattle.brl_divergence.specs.declared.found.FoundSoFar.{FoundSoFar}
 
 -- ---- Splits
 
@@ -32,16 +32,16 @@ pub record AreFollowed {S : Type 0} (states : List S) (pairs : List NumberPair) 
   pub followed : IsFollowed pairs one.next one.cells other
 
 -- two steps are settled: their pair of rules is listed, or the pair into which they split is found
-abbrev pub AreSettled : {S : Type 0} → Found S → Step S → Step S → Type 0
+abbrev pub AreSettled : {S : Type 0} → FoundSoFar S → Step S → Step S → Type 0
 AreSettled f x y = Contains (rules_of f.list) (x.rule, y.rule) ⊎ AreFollowed f.trail.states f.trail.pairs x y
 
 -- the steps at these places of the state with this number are settled
-abbrev pub AreSettledAt : {S : Type 0} → Behaviour S → Found S → ℕ → ℕ → ℕ → Type 0
+abbrev pub AreSettledAt : {S : Type 0} → Behaviour S → FoundSoFar S → ℕ → ℕ → ℕ → Type 0
 AreSettledAt {S} m f number i j =
     (x y : Step S) → TakesStep m f.trail.states number i x → TakesStep m f.trail.states number j y → AreSettled f x y
 
 -- any two steps of the state with this number are settled
-abbrev pub IsSettledState : {S : Type 0} → Behaviour S → Found S → ℕ → Type 0
+abbrev pub IsSettledState : {S : Type 0} → Behaviour S → FoundSoFar S → ℕ → Type 0
 IsSettledState m f number = (i j : ℕ) → i < j → AreSettledAt m f number i j
 
 -- ---- Exploring
@@ -66,20 +66,20 @@ pub record IsExplored {M S : Type 0} (behaviour : M → Behaviour S) (f : Finder
 
 -- and each listed pair of rules has its texts, and the steps that are kept are those of their
 -- states
-pub record IsSound {M S : Type 0} (behaviour : M → Behaviour S) (f : Finder M S) (e : Expanded) (it : Found S) : Type 0 where
+pub record IsSound {M S : Type 0} (behaviour : M → Behaviour S) (f : Finder M S) (e : Expanded) (it : FoundSoFar S) : Type 0 where
   pub explored : IsExplored behaviour f e it.trail
   pub listed : IsListed (behaviour f.machine.now) it.list
   pub few : btree_map_len it.list ≤ f.limit
   pub known : AreKnown (behaviour f.machine.now) it.trail.states it.known
 
 -- no state is added, and what is found stays found
-pub record Keeps {S : Type 0} (old new : Found S) : Type 0 where
+pub record Keeps {S : Type 0} (old new : FoundSoFar S) : Type 0 where
   pub states : new.trail.states ≡ old.trail.states
   pub pairs : Stays old.trail.pairs new.trail.pairs
   pub rules : (rules : ℕ × ℕ) → Contains (rules_of old.list) rules → Contains (rules_of new.list) rules
 
 -- more states, pairs or listed pairs of rules than the limit are found, by no more than one
-pub record IsOver {S : Type 0} (m : Behaviour S) (limit : ℕ) (it : Found S) : Type 0 where
+pub record IsOver {S : Type 0} (m : Behaviour S) (limit : ℕ) (it : FoundSoFar S) : Type 0 where
   pub traced : IsTraced m it.trail
   pub listed : IsListed m it.list
   pub more : (limit < length it.trail.states) ⊎ ((limit < length it.trail.pairs) ⊎ (limit < btree_map_len it.list))

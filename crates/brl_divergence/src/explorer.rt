@@ -11,7 +11,7 @@ ghost use Rattle.brl_pairs.specs.declared.step.Step.{Step as StepValue};
 
 use crate::RuleTexts;
 use crate::expanded::Expanded;
-use crate::found::{Found, take_back};
+use crate::found::{FoundSoFar, take_back};
 use brl_closure::{Finder, Origins, PairOrigin, Stop, Texts, Trail};
 use brl_failure::Failure;
 use brl_pairs::{Machine, SortedEdge, Splits, cells_of, earlier_splits, splits_of};
@@ -122,7 +122,7 @@ impl<'a, 'm, M: Machine> Explorer<'a, 'm, M> {
     /// pair of rules is listed.
     fn settle_split(
         &self,
-        found: &mut Found<M::State>,
+        found: &mut FoundSoFar<M::State>,
         state: usize,
         first: &SortedEdge,
         second: &SortedEdge,
@@ -162,7 +162,7 @@ impl<'a, 'm, M: Machine> Explorer<'a, 'm, M> {
     /// Settles one step of a state with each earlier one.
     fn settle_place(
         &self,
-        found: &mut Found<M::State>,
+        found: &mut FoundSoFar<M::State>,
         state: usize,
         splits: &Splits,
         second: usize,
@@ -188,7 +188,7 @@ impl<'a, 'm, M: Machine> Explorer<'a, 'm, M> {
     /// Settles any two steps of a state.
     pub fn settle_state(
         &self,
-        found: &mut Found<M::State>,
+        found: &mut FoundSoFar<M::State>,
         state: usize,
     ) -> Result<(), Failure<Stop>>
         requires sound { IsSound M.behaviour self.now.finder.now self.now.expanded.now found.old }

@@ -8,7 +8,7 @@ use brl_pairs::Key;
 /// What a listing has found: states and pairs, and the pairs of rules that are listed. The steps of
 /// states on the way to texts are kept.
 #[derive(Drop)]
-pub struct Found<S: Key> {
+pub struct FoundSoFar<S: Key> {
     pub trail: Trail<S>,
     pub list: RuleTexts,
     pub known: KnownSteps<S>,

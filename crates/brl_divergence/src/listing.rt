@@ -12,7 +12,7 @@ ghost use Rattle.brl_progress.specs.Slices.{IfFinished, IfUnfinished};
 use crate::divergences::Divergences;
 use crate::expanded::{Expanded, expand_next, forget_parts};
 use crate::explorer::Explorer;
-use crate::found::Found;
+use crate::found::FoundSoFar;
 use brl_closure::{Finder, KnownSteps, Stop, Trail};
 use brl_failure::Failure;
 use brl_pairs::{Body, Machine, Parted, Seed};
@@ -34,7 +34,7 @@ pub struct Listing<'m, M: Parted> {
     expanded: Expanded,
     /// The parts of steps that have been listed, as long as states are to be expanded.
     parts: Parts<M::Part>,
-    found: Found<M::State>,
+    found: FoundSoFar<M::State>,
     /// The number of states whose splits are settled.
     settled: usize,
 }
@@ -74,7 +74,7 @@ impl<'m, M: Parted> Listing<'m, M> {
             limit,
             seed,
         };
-        let found = Found {
+        let found = FoundSoFar {
             trail: finder.begin()?,
             list: BTreeMap::new(alloc),
             known: KnownSteps::new(alloc),
@@ -174,7 +174,7 @@ fn run<M: Parted>(
     finder: &Finder<'_, M>,
     expanded: &mut Expanded,
     parts: &mut Parts<M::Part>,
-    found: &mut Found<M::State>,
+    found: &mut FoundSoFar<M::State>,
     settled: &mut usize,
     steps: u64,
 ) -> Result<bool, Failure<Stop>>
@@ -197,7 +197,7 @@ fn step<M: Parted>(
     finder: &Finder<'_, M>,
     expanded: &mut Expanded,
     parts: &mut Parts<M::Part>,
-    found: &mut Found<M::State>,
+    found: &mut FoundSoFar<M::State>,
     settled: &mut usize,
 ) -> Result<bool, Failure<Stop>>
     requires working { IsWorking M.behaviour M.steps_of finder.now expanded.old parts.old found.old settled.old }
@@ -222,11 +222,14 @@ fn step<M: Parted>(
 }
 
 /// The whole list, and the states and pairs, where nothing is left to do.
-fn complete<M: Machine>(finder: &Finder<'_, M>, found: Found<M::State>) -> Divergences<M::State>
+fn complete<M: Machine>(
+    finder: &Finder<'_, M>,
+    found: FoundSoFar<M::State>,
+) -> Divergences<M::State>
     requires { (expanded : ExpandedValue) × IsDone M.behaviour finder.now expanded found }
     ensures { AreDivergencesOf (M.behaviour finder.now.machine.now) finder.now.limit result }
 {
-    let Found { trail, list, .. } = found;
+    let FoundSoFar { trail, list, .. } = found;
     let Trail {
         states: states,
         pairs: pairs,
@@ -239,7 +242,7 @@ fn complete<M: Machine>(finder: &Finder<'_, M>, found: Found<M::State>) -> Diver
 }
 
 /// What is listed, and the numbers of what was found, once one of them is more than the limit.
-fn partial<M: Machine>(finder: &Finder<'_, M>, found: Found<M::State>) -> Divergences<M::State>
+fn partial<M: Machine>(finder: &Finder<'_, M>, found: FoundSoFar<M::State>) -> Divergences<M::State>
     requires { IsOver (M.behaviour finder.now.machine.now) finder.now.limit found }
     ensures { AreDivergencesOf (M.behaviour finder.now.machine.now) finder.now.limit result }
 {

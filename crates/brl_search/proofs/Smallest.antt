@@ -16,7 +16,7 @@ use Rattle.brl_rules.specs.TableView.{TableView}
 use Rattle.brl_rules.specs.Text.{is_text}
 use Rattle.brl_search.specs.Small.{ClashAt, IsSmall}
 use Rattle.brl_search.specs.Smaller.{IsNone, Keeps}
-use Rattle.brl_search.specs.declared.texts.Texts.{Texts}
+use Rattle.brl_closure.specs.declared.search.texts.Texts.{Texts}
 use Rattle.brl_search.proofs.Parts.{part-is, part-part, part-self, remove-past}
 
 -- ---- Texts of the table have no fault

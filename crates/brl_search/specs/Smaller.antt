@@ -9,7 +9,7 @@ use Rattle.brl_rules.specs.TableView.{TableView}
 use Rattle.brl_rules.specs.Translation.{translation}
 use Rattle.brl_search.specs.Small.{ClashAt, IsPartOf}
 use Rattle.brl_traces.specs.Traces.{begins_in_caps_run, taken}
-use Rattle.brl_search.specs.declared.texts.Texts.{Texts}
+use Rattle.brl_closure.specs.declared.search.texts.Texts.{Texts}
 
 -- texts that clash, at the pair of rules where one is given, and are parts of two others
 pub record Keeps (t : TableView) (rules : Option (ℕ × ℕ)) (given texts : Texts) : Type 0 where

@@ -45,5 +45,5 @@ pub use seed::seed_of;
 pub use small::small_clash_of;
 pub use table_clashes::{ClashList, RuleClash, clashes};
 pub use table_search::{Found, SearchFault, search};
-pub use texts::{Texts, clash_at};
+pub use texts::clash_at;
 pub use unused::{UnusedRules, unused_rules};

@@ -6,7 +6,8 @@ ghost use Rattle.brl_search.specs.Smaller.{AreKeysOf, IsNone, Keeps, size_of};
 ghost use Rattle.brl_traces.specs.Traces.{TracesDivergeAt};
 
 use crate::keys::{Keys, keys_of};
-use crate::texts::{Texts, clash_at};
+use crate::texts::{both_without, clash_at};
+use brl_closure::Texts;
 use brl_forward::{Clash, clash_of};
 use brl_rules::Table;
 use std::alloc::{AllocError, Global};
@@ -14,7 +15,7 @@ use std::alloc::{AllocError, Global};
 /// Which clashes count: those of a table, and where a pair of rules is given, of texts whose traces
 /// diverge at it.
 #[derive(Clone, Copy)]
-struct Wanted<'a> {
+struct ClashFilter<'a> {
     alloc: Global,
     table: &'a Table,
     rules: Option<(u32, u32)>,
@@ -43,17 +44,17 @@ pub fn small_clash_of(
     ensures right { IfOk result (λ clash. IsPartOf clash.right texts.right.items) }
     ensures small { IfOk result (λ clash. IsSmall table.now rules clash.left clash.right) }
 {
-    let wanted = Wanted {
+    let filter = ClashFilter {
         alloc,
         table,
         rules,
     };
-    let shorter = wanted.without_blocks(texts)?;
-    let small = wanted.without_characters(shorter)?;
+    let shorter = filter.without_blocks(texts)?;
+    let small = filter.without_characters(shorter)?;
     clash_of(alloc, table, small.left, small.right)
 }
 
-impl<'a> Wanted<'a> {
+impl<'a> ClashFilter<'a> {
     /// Two texts that clash, without blocks of their first characters: first long blocks, then
     /// shorter ones.
     fn without_blocks(&self, given: Texts) -> Result<Texts, AllocError>
@@ -80,7 +81,7 @@ impl<'a> Wanted<'a> {
         let mut start: usize = 0;
         while start < texts.left.len() && start < texts.right.len() {
             let end = start.saturating_add(size);
-            let next = texts.without(self.alloc, start..end, start..end)?;
+            let next = both_without(self.alloc, &texts, start..end, start..end)?;
             if clash_at(self.alloc, self.table, &next, self.rules)? {
                 texts = next;
             } else {
@@ -165,7 +166,7 @@ impl<'a> Wanted<'a> {
         if left == texts.left.len() && right == texts.right.len() {
             return Ok(None);
         }
-        let next = texts.without(self.alloc, left..left + 1, right..right + 1)?;
+        let next = both_without(self.alloc, texts, left..left + 1, right..right + 1)?;
         if clash_at(self.alloc, self.table, &next, self.rules)? {
             Ok(Some(next))
         } else {

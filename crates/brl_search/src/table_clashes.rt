@@ -6,7 +6,7 @@ ghost use Rattle.brl_search.specs.Clashes.{AreClashes, AreRuleClashes, rules_of_
 ghost use Rattle.brl_search.specs.Searched.{machine_of};
 ghost use Rattle.brl_without.specs.Without.{without};
 
-use crate::{Texts, seed_of, small_clash_of};
+use crate::{seed_of, small_clash_of};
 use brl_divergence::{Divergences, RuleTexts, complete_list_law, list_divergences};
 use brl_dues::{Dues, exact_law};
 use brl_forward::Clash;
@@ -122,11 +122,7 @@ fn rule_clashes(
     let mut rest = list;
     let mut clashes = Vec::new(alloc);
     while let Some((rules, texts)) = rest.pop_first() {
-        let given = Texts {
-            left: texts.left,
-            right: texts.right,
-        };
-        let clash = small_clash_of(alloc, table, given, Some(rules))?;
+        let clash = small_clash_of(alloc, table, texts, Some(rules))?;
         clashes.push(RuleClash {
             lesser: rules.0,
             greater: rules.1,

@@ -7,8 +7,8 @@ ghost use Rattle.brl_search.specs.Small.{IsSmallClash};
 ghost use Rattle.brl_rules.specs.Translation.{IsUnambiguous};
 ghost use Rattle.brl_without.specs.Without.{without};
 
-use crate::{Texts, seed_of, small_clash_of};
-use brl_closure::{Outcome, same_cells_law, search_machine};
+use crate::{seed_of, small_clash_of};
+use brl_closure::{Outcome, Texts, same_cells_law, search_machine};
 use brl_dues::{Dues, exact_law};
 use brl_forward::Clash;
 use brl_pairs::numbered_sets_law;

@@ -1,4 +1,4 @@
-//! Two texts, and whether they clash as is wanted.
+//! Whether two texts clash, also at a pair of rules; and texts without some characters.
 ghost use Rattle.std.specs.Prelude.{◌≡◌, ◌↔◌, ◌∷◌, ◌≤◌, ◌<◌, [], IfErr, IfOk, IsTrue, length};
 ghost use Rattle.std.specs.List.{remove_range};
 ghost use Rattle.brl_failure.specs.Failure.{IfFault};
@@ -11,37 +11,29 @@ ghost use Rattle.brl_search.specs.Smaller.{are_same_steps, diverge_at};
 ghost use Rattle.brl_traces.specs.Traces.{TracesDivergeAt, begins_in_caps_run, taken};
 
 use brl_cells::Cell;
+use brl_closure::Texts;
 use brl_failure::Failure;
 use brl_forward::{Traced, confirm, trace, translate};
 use brl_rules::{Class, Table};
 use std::alloc::{AllocError, Global};
 use std::ops::Range;
 
-/// Two texts.
-#[derive(Drop)]
-pub struct Texts {
-    pub left: Vec<char>,
-    pub right: Vec<char>,
-}
-
-impl Texts {
-    /// The two texts, each without the characters at these places.
-    pub(crate) fn without(
-        &self,
-        alloc: Global,
-        left: Range<usize>,
-        right: Range<usize>,
-    ) -> Result<Texts, AllocError>
-        requires left { left.start ≤ length self.now.left.items }
-        requires right { right.start ≤ length self.now.right.items }
-        ensures left { IfOk result (λ texts. texts.left.items ≡ remove_range self.now.left.items left.start left.end) }
-        ensures right { IfOk result (λ texts. texts.right.items ≡ remove_range self.now.right.items right.start right.end) }
-    {
-        Ok(Texts {
-            left: without(alloc, self.left.as_slice(), left)?,
-            right: without(alloc, self.right.as_slice(), right)?,
-        })
-    }
+/// Two texts, each without the characters at these places.
+pub(crate) fn both_without(
+    alloc: Global,
+    texts: &Texts,
+    left: Range<usize>,
+    right: Range<usize>,
+) -> Result<Texts, AllocError>
+    requires left { left.start ≤ length texts.now.left.items }
+    requires right { right.start ≤ length texts.now.right.items }
+    ensures left { IfOk result (λ shorter. shorter.left.items ≡ remove_range texts.now.left.items left.start left.end) }
+    ensures right { IfOk result (λ shorter. shorter.right.items ≡ remove_range texts.now.right.items right.start right.end) }
+{
+    Ok(Texts {
+        left: without(alloc, texts.left.as_slice(), left)?,
+        right: without(alloc, texts.right.as_slice(), right)?,
+    })
 }
 
 /// A text without the characters at these places.

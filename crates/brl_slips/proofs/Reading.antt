@@ -8,12 +8,12 @@ use Rattle.std.proofs.lemmas.Option.{get_or_from_slice_get, slice_get_within}
 use Rattle.brl_lines.specs.Tokens.{LineView}
 use Rattle.brl_rules.specs.declared.rule.Info.{Info}
 use Rattle.brl_slips.specs.Lines.{own_pieces, piece_of_line, pieces_of, rule_at, rule_of_line, rules_of, small_piece}
-use Rattle.brl_slips.specs.declared.alphabet.Alphabet.{Alphabet}
+use Rattle.brl_slips.specs.declared.alphabet.Characters.{Characters}
 use Rattle.brl_slips.specs.declared.lexicon.Entry.{Entry}
 use Rattle.brl_slips.specs.declared.lexicon.Piece.{Piece}
 
 -- the piece of one more character
-pub own_more : (alphabet : Alphabet) (place : ℕ) (entry : ℕ × Info) (old new : List Piece) → slice_get alphabet.infos.entries place ≡ Some entry
+pub own_more : (alphabet : Characters) (place : ℕ) (entry : ℕ × Info) (old new : List Piece) → slice_get alphabet.infos.entries place ≡ Some entry
     → old ≡ flat_map (small_piece alphabet) (take place alphabet.infos.entries) → new ≡ old ++ small_piece alphabet entry
     → new ≡ flat_map (small_piece alphabet) (take (place + 1) alphabet.infos.entries)
 own_more alphabet place entry old new there so_far added =
@@ -25,7 +25,7 @@ own_more alphabet place entry old new there so_far added =
     ∙ ap (λ (ps : List Piece). flat_map gives (take place entries) ++ ps) (sym (append-nil (gives entry)))
     ∙ sym (flat_map-append gives (take place entries) (entry ∷ [])) ∙ ap (flat_map gives) (sym next)
 
-module _ (alphabet : Alphabet) (lines : List LineView) (place : ℕ) (line : LineView) (within : place < length lines) (is : get_or lines place line ≡ line) where
+module _ (alphabet : Characters) (lines : List LineView) (place : ℕ) (line : LineView) (within : place < length lines) (is : get_or lines place line ≡ line) where
   -- one more line, which may give a piece
   pub pieces_more : (old new : List Piece) → old ≡ pieces_of alphabet (take place lines) → new ≡ old ++ option_to_list (piece_of_line alphabet line) → new ≡ pieces_of alphabet (take (place + 1) lines)
   pieces_more old new so_far added =
@@ -54,6 +54,6 @@ module _ (alphabet : Alphabet) (lines : List LineView) (place : ℕ) (line : Lin
       ∙ sym (flat_map-append gives (take place numbered) ((place, line) ∷ [])) ∙ ap (flat_map gives) (sym next)
 
 -- all lines
-pub rules_all : (alphabet : Alphabet) (lines : List LineView) (place : ℕ) → length lines ≤ place
+pub rules_all : (alphabet : Characters) (lines : List LineView) (place : ℕ) → length lines ≤ place
     → flat_map (λ at. option_to_list (rule_at alphabet lines at)) (take place (enumerate_from 0 lines)) ≡ rules_of alphabet lines
 rules_all alphabet lines place past = ap (flat_map (λ (at : ℕ × LineView). option_to_list (rule_at alphabet lines at))) (take_all place (enumerate_from 0 lines) (omega (arith, past, length-enumerate_from 0 lines)))

@@ -9,19 +9,19 @@ use Rattle.indexmap.specs.IndexMap.{get}
 use Rattle.brl_rules.specs.declared.rule.Info.{Info}
 use Rattle.brl_slips.specs.Letters.{is_letter}
 use Rattle.brl_slips.specs.Slips.{piece_of}
-use Rattle.brl_slips.specs.declared.alphabet.Alphabet.{Alphabet}
+use Rattle.brl_slips.specs.declared.alphabet.Characters.{Characters}
 use Rattle.brl_slips.specs.declared.lexicon.Lexicon.{Lexicon}
 use Rattle.brl_slips.specs.declared.lexicon.Piece.{Piece}
 use Rattle.brl_slips.specs.declared.twins.Twins.{Twins}
 
 -- the cells of a character's own definition; none where it has none
-abbrev pub own_cells : Alphabet → ℕ → List ℕ
+abbrev pub own_cells : Characters → ℕ → List ℕ
 own_cells alphabet c = option_map_or (λ (info : Info). info.cells) (get nat_eq alphabet.infos c) []
 
 -- ---- Two rules
 
 -- two characters are letters with different cells of their own
-pub record AreApart (alphabet : Alphabet) (one other : ℕ) : Type 0 where
+pub record AreApart (alphabet : Characters) (one other : ℕ) : Type 0 where
   pub one_is : is_letter alphabet one ≡ true
   pub other_is : is_letter alphabet other ≡ true
   pub cells : own_cells alphabet one ≢ own_cells alphabet other

@@ -20,19 +20,19 @@ use std::alloc::{AllocError, Global};
 /// The characters that lines define, and the small letters of capitals that `base uppercase` lines
 /// give.
 #[derive(Drop)]
-pub struct Alphabet {
+pub struct Characters {
     pub(crate) infos: IndexMap<char, Info>,
     pub(crate) small: IndexMap<char, char>,
 }
 
-impl Alphabet {
+impl Characters {
     /// The characters of these lines.
-    pub(crate) fn of_lines(alloc: Global, lines: &[Line<'_>]) -> Result<Alphabet, AllocError>
+    pub(crate) fn of_lines(alloc: Global, lines: &[Line<'_>]) -> Result<Characters, AllocError>
         ensures { IfOk result (IsAlphabet (map line_view lines.now)) }
     {
         let infos = good_characters(alloc, lines)?;
         let small = small_letters(alloc, lines)?;
-        Ok(Alphabet { infos, small })
+        Ok(Characters { infos, small })
     }
 
     /// The small letter of a capital, and another character itself.

@@ -3,7 +3,7 @@ use crate::findings::Findings;
 use crate::habit::Habit;
 use crate::lexicon::Lexicon;
 use crate::names::Names;
-use crate::rows::{Found, Row, RuleOfRow};
+use crate::rows::{Row, RowSource, RuleOfRow};
 use crate::slip::cells_of_row;
 use brl_cells::{Cell, write_dots};
 use brl_lines::{Line, spell_visibly};
@@ -22,7 +22,7 @@ pub fn slips_columns(
     findings: &Findings,
 ) -> Result<String, AllocError> {
     let names = Names::of_pieces(alloc, &lexicon.alphabet, lexicon.pieces.as_slice())?;
-    let found = Found {
+    let found = RowSource {
         alloc,
         lexicon,
         names: &names,
@@ -40,7 +40,7 @@ pub fn slips_columns(
 }
 
 /// Appends the line of a slip or of twins.
-fn push_row(found: Found<'_>, text: &mut String, row: &Row<'_>) -> Result<(), AllocError> {
+fn push_row(found: RowSource<'_>, text: &mut String, row: &Row<'_>) -> Result<(), AllocError> {
     text.push_str(row.kind)?;
     push_rule(found, text, Some(row.rule))?;
     write!(text, "\t{}", row.said)?;
@@ -50,7 +50,7 @@ fn push_row(found: Found<'_>, text: &mut String, row: &Row<'_>) -> Result<(), Al
 }
 
 /// Appends the line of a habit, with the first rule that has it.
-fn push_habit(found: Found<'_>, text: &mut String, habit: &Habit) -> Result<(), AllocError> {
+fn push_habit(found: RowSource<'_>, text: &mut String, habit: &Habit) -> Result<(), AllocError> {
     let rule = RuleOfRow::of(found.lexicon, found.lines, habit.entry);
     text.push_str("habit")?;
     push_rule(found, text, rule)?;
@@ -64,7 +64,7 @@ fn push_habit(found: Found<'_>, text: &mut String, habit: &Habit) -> Result<(), 
 /// Appends the columns of a rule: its file, line, opcode, characters and cells. Those of none are
 /// empty.
 fn push_rule(
-    found: Found<'_>,
+    found: RowSource<'_>,
     text: &mut String,
     rule: Option<RuleOfRow<'_>>,
 ) -> Result<(), AllocError> {
@@ -78,14 +78,14 @@ fn push_rule(
 }
 
 /// Appends the column of cells.
-fn push_cells(found: Found<'_>, text: &mut String, cells: &[Cell]) -> Result<(), AllocError> {
+fn push_cells(found: RowSource<'_>, text: &mut String, cells: &[Cell]) -> Result<(), AllocError> {
     text.push('\t')?;
     text.push_str(write_dots(found.alloc, cells)?.as_str())
 }
 
 /// Appends the columns of a spelling: its pieces with blanks between them, and its cells.
 fn push_spelling(
-    found: Found<'_>,
+    found: RowSource<'_>,
     text: &mut String,
     spelling: &[usize],
 ) -> Result<(), AllocError> {

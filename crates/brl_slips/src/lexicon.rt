@@ -9,7 +9,7 @@ ghost use Rattle.brl_slips.specs.Slips.{piece_of};
 ghost use Rattle.brl_slips.specs.Twins.{own_cells as cells_of_own};
 ghost use Rattle.brl_slips.specs.Words.{after_prefixes, words_of_piece};
 
-use crate::alphabet::Alphabet;
+use crate::alphabet::Characters;
 use crate::words::{are_of_rule, piece_words, words_of};
 use brl_cells::{Cell, Cells, Chars, read_dots};
 use brl_failure::Failure;
@@ -43,7 +43,7 @@ pub struct Entry {
 /// lines.
 #[derive(Drop)]
 pub struct Lexicon {
-    pub alphabet: Alphabet,
+    pub alphabet: Characters,
     pub pieces: Vec<Piece>,
     pub entries: Vec<Entry>,
 }
@@ -52,7 +52,7 @@ pub struct Lexicon {
 pub fn read_lexicon(alloc: Global, lines: &[Line<'_>]) -> Result<Lexicon, AllocError>
     ensures { IfOk result (IsLexicon (map line_view lines.now)) }
 {
-    let alphabet = Alphabet::of_lines(alloc, lines)?;
+    let alphabet = Characters::of_lines(alloc, lines)?;
     let mut pieces = own_pieces(alloc, &alphabet)?;
     let mut entries = Vec::new(alloc);
     for (place, line) in lines.iter().enumerate() {
@@ -66,7 +66,7 @@ pub fn read_lexicon(alloc: Global, lines: &[Line<'_>]) -> Result<Lexicon, AllocE
 }
 
 /// The pieces of the own definitions of characters that aren't capitals of others.
-fn own_pieces(alloc: Global, alphabet: &Alphabet) -> Result<Vec<Piece>, AllocError>
+fn own_pieces(alloc: Global, alphabet: &Characters) -> Result<Vec<Piece>, AllocError>
     ensures { IfOk result (λ pieces. pieces.items ≡ pieces_of_characters alphabet.now) }
 {
     let mut pieces = Vec::new(alloc);
@@ -80,7 +80,7 @@ fn own_pieces(alloc: Global, alphabet: &Alphabet) -> Result<Vec<Piece>, AllocErr
 /// Adds the piece of a character's own definition, unless it is a capital of another.
 fn push_own(
     alloc: Global,
-    alphabet: &Alphabet,
+    alphabet: &Characters,
     character: char,
     info: &Info,
     pieces: &mut Vec<Piece>,
@@ -107,7 +107,7 @@ fn piece_of_character(alloc: Global, character: char, info: &Info) -> Result<Pie
 /// Adds the piece of a line, if it gives one, and its rule, if it is one that is read and used.
 fn read_line(
     alloc: Global,
-    alphabet: &Alphabet,
+    alphabet: &Characters,
     place: usize,
     line: &Line<'_>,
     pieces: &mut Vec<Piece>,
@@ -131,7 +131,11 @@ fn read_line(
 }
 
 /// The piece that words give, if they do.
-fn piece_in(alloc: Global, alphabet: &Alphabet, words: &[&str]) -> Result<Option<Piece>, AllocError>
+fn piece_in(
+    alloc: Global,
+    alphabet: &Characters,
+    words: &[&str],
+) -> Result<Option<Piece>, AllocError>
     ensures { IfOk result (λ found. found ≡ option_and_then (piece_by alphabet.now) (words_of_piece (after_prefixes (map (λ word. word.now) words.now)))) }
 {
     let Some((chars, dots)) = piece_words(words) else {
@@ -148,7 +152,7 @@ fn piece_in(alloc: Global, alphabet: &Alphabet, words: &[&str]) -> Result<Option
 
 /// The characters that a word spells, capitals as their small letters: at least one, and at most
 /// 32.
-fn folded(alloc: Global, alphabet: &Alphabet, word: &str) -> Result<Option<Chars>, AllocError>
+fn folded(alloc: Global, alphabet: &Characters, word: &str) -> Result<Option<Chars>, AllocError>
     ensures { IfOk result (λ found. found ≡ option_and_then (folded_characters alphabet.now) (read (characters_of word.now))) }
 {
     let characters = match chars_of(alloc, word) {
@@ -164,7 +168,7 @@ fn folded(alloc: Global, alphabet: &Alphabet, word: &str) -> Result<Option<Chars
 }
 
 /// Characters, capitals as their small letters.
-fn folds(alloc: Global, alphabet: &Alphabet, characters: &[char]) -> Result<Vec<char>, AllocError>
+fn folds(alloc: Global, alphabet: &Characters, characters: &[char]) -> Result<Vec<char>, AllocError>
     ensures { IfOk result (λ folds. folds.items ≡ map (fold_of alphabet.now) characters.now) }
 {
     characters
@@ -176,7 +180,7 @@ fn folds(alloc: Global, alphabet: &Alphabet, characters: &[char]) -> Result<Vec<
 /// The cells that a word spells; `=` spells the own cells of these characters.
 fn cells_of(
     alloc: Global,
-    alphabet: &Alphabet,
+    alphabet: &Characters,
     chars: &Chars,
     word: &str,
 ) -> Result<Option<Cells>, AllocError>
@@ -195,7 +199,7 @@ fn cells_of(
 /// The own cells of characters, one after the other, where all are defined.
 fn own_cells(
     alloc: Global,
-    alphabet: &Alphabet,
+    alphabet: &Characters,
     chars: &[char],
 ) -> Result<Option<Cells>, AllocError>
     ensures { IfOk result (λ found. found ≡ (if list_all (defines alphabet.now) chars.now then Some (flat_map (cells_of_own alphabet.now) chars.now) else None)) }

@@ -1,5 +1,5 @@
 //! What a cell is named by.
-use crate::alphabet::Alphabet;
+use crate::alphabet::Characters;
 use crate::lexicon::Piece;
 use brl_cells::Cell;
 use std::alloc::{AllocError, Global};
@@ -15,7 +15,7 @@ impl Names {
     /// The names that these pieces give.
     pub(crate) fn of_pieces(
         alloc: Global,
-        alphabet: &Alphabet,
+        alphabet: &Characters,
         pieces: &[Piece],
     ) -> Result<Names, AllocError> {
         let mut of_cells = Vec::from_elem(alloc, None, 256)?;

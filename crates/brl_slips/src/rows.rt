@@ -72,7 +72,7 @@ fn kind_of(fault: Fault) -> &'static str {
 
 /// What rows are made of.
 #[derive(Clone, Copy)]
-pub(crate) struct Found<'a> {
+pub(crate) struct RowSource<'a> {
     pub alloc: Global,
     pub lexicon: &'a Lexicon,
     pub names: &'a Names,
@@ -80,7 +80,7 @@ pub(crate) struct Found<'a> {
     pub findings: &'a Findings,
 }
 
-impl<'a> Found<'a> {
+impl<'a> RowSource<'a> {
     /// The table with its names of cells.
     pub(crate) fn named(self) -> Named<'a> {
         Named {

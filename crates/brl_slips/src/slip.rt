@@ -8,10 +8,10 @@ ghost use Rattle.brl_slips.specs.Finding.{HasNone, IsFoundFrom, IsKindFound, IsK
 ghost use Rattle.brl_slips.specs.declared.fault.Fault.{Fault};
 ghost use Rattle.brl_slips.specs.declared.fault.Fault.TheVariants.{Exchanged as IsExchanged, Missing as IsMissing, TooMany as IsTooMany};
 
-use crate::alphabet::Alphabet;
+use crate::alphabet::Characters;
 use crate::fault::{Fault, differing_from};
 use crate::lexicon::{Lexicon, Piece};
-use crate::spelling::{Text, Wanted};
+use crate::spelling::{Pattern, Text};
 use crate::starts::Index;
 use brl_cells::Cell;
 use std::alloc::{AllocError, Global};
@@ -45,7 +45,7 @@ pub(crate) struct Question<'a> {
 /// Whether a piece may be a slip: of four characters or more, all of them letters, and of four
 /// cells or more. A rule has at most 32 characters, and at most 16 cells but where it has its
 /// characters' own.
-fn may_be_slip(alphabet: &Alphabet, piece: &Piece) -> bool
+fn may_be_slip(alphabet: &Characters, piece: &Piece) -> bool
     ensures { result ≡ may_be alphabet.now piece.now }
 {
     let characters = piece.chars.len();
@@ -117,7 +117,7 @@ impl Question<'_> {
             ((row : List ℕ) → IsSpelling self.entry.text.pieces.now self.entry.text.chars.now row → Fits cells.now misses (cells_of self.entry.text.pieces.now row) → ⊥)
             (λ row. IsSpelling self.entry.text.pieces.now self.entry.text.chars.now row.items × Fits cells.now misses (cells_of self.entry.text.pieces.now row.items))) }
     {
-        self.text.spelling(alloc, Wanted { cells, misses }, steps)
+        self.text.spelling(alloc, Pattern { cells, misses }, steps)
     }
 
     /// A spelling with just these cells.

@@ -23,7 +23,7 @@ pub(crate) struct Text<'a> {
 /// Cells that a spelling is to have; `None` is any cell. A spelling may differ from them at
 /// this number of places.
 #[derive(Clone, Copy)]
-pub(crate) struct Wanted<'a> {
+pub(crate) struct Pattern<'a> {
     pub cells: &'a [Option<Cell>],
     pub misses: u8,
 }
@@ -126,7 +126,7 @@ fn left_after(wanted: &[Option<Cell>], cells: &[Cell], misses: u8) -> Option<u8>
 
 impl Text<'_> {
     /// The state after one more piece.
-    fn after(self, wanted: Wanted<'_>, state: State, number: usize) -> Option<State>
+    fn after(self, wanted: Pattern<'_>, state: State, number: usize) -> Option<State>
         requires piece { IsPieceAt self.pieces.now self.chars.now state.character number }
         requires cell { state.cell ≤ length wanted.cells.now }
         ensures { MatchOption result
@@ -148,7 +148,7 @@ impl Text<'_> {
     /// Goes on with a row of pieces to the end of the text, if some row has the cells.
     fn complete(
         self,
-        wanted: Wanted<'_>,
+        wanted: Pattern<'_>,
         state: State,
         known: &mut Known,
         row: &mut Vec<usize>,
@@ -190,7 +190,7 @@ impl Text<'_> {
     pub(crate) fn spelling(
         self,
         alloc: Global,
-        wanted: Wanted<'_>,
+        wanted: Pattern<'_>,
         steps: &mut u64,
     ) -> Result<Option<Vec<usize>>, AllocError>
         requires starts { AreStarts self.pieces.now self.chars.now self.starts.now }

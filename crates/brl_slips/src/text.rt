@@ -4,7 +4,7 @@ use crate::findings::Findings;
 use crate::habit::Habit;
 use crate::lexicon::Lexicon;
 use crate::names::Names;
-use crate::rows::{Found, Row, RuleOfRow};
+use crate::rows::{Row, RowSource, RuleOfRow};
 use brl_lines::{Line, spell_visibly};
 use std::alloc::{AllocError, Global};
 use unicode_width::UnicodeWidthStr;
@@ -23,7 +23,7 @@ pub fn slips_text(
 ) -> Result<String, AllocError> {
     let names = Names::of_pieces(alloc, &lexicon.alphabet, lexicon.pieces.as_slice())?;
     let files = FileNames::of_lines(alloc, lines)?;
-    let found = Found {
+    let found = RowSource {
         alloc,
         lexicon,
         names: &names,
@@ -159,7 +159,7 @@ fn push_row(
 
 /// Appends a habit: how often it is, what it is, and the first rule that has it.
 fn push_habit(
-    found: Found<'_>,
+    found: RowSource<'_>,
     text: &mut String,
     files: &FileNames<'_>,
     habit: &Habit,

@@ -5,7 +5,7 @@ ghost use Rattle.std.specs.List.Sorted.{IsPermutation, IsSorted};
 ghost use Rattle.brl_slips.specs.Pairing.{AreAll, AreCounted, AreFamilies, AreFound, IsAdded, IsDifferenceFound, IsOneMore, IsPairBelow, IsSmallFamily, count_of, has_chars, is_wanted, members_of};
 ghost use Rattle.brl_slips.specs.Twins.{AreApart, AreRare, AreShown, AreTwins, IsCandidate, letter_at, letters, twins_cmp};
 
-use crate::alphabet::Alphabet;
+use crate::alphabet::Characters;
 use crate::lexicon::{Lexicon, Piece};
 use brl_cells::Cells;
 use indexmap::IndexMap;
@@ -242,7 +242,7 @@ fn twins_of(lexicon: &Lexicon, one: usize, other: usize) -> Option<Twins>
 }
 
 /// Whether the characters of two pieces at a place are letters with different cells of their own.
-fn are_apart(alphabet: &Alphabet, left: &Piece, right: &Piece, place: usize) -> bool
+fn are_apart(alphabet: &Characters, left: &Piece, right: &Piece, place: usize) -> bool
     requires left { place < length left.now.chars }
     requires right { place < length right.now.chars }
     ensures { Decides result (AreApart alphabet.now (slice_index left.now.chars place) (slice_index right.now.chars place)) }

@@ -18,7 +18,7 @@ use Rattle.brl_rules.specs.Text.{is_defined, is_text}
 use Rattle.brl_rules.proofs.Facts.{nat_eq-itself, nat_eq-sym}
 use Rattle.brl_stream.specs.Lacking.{Use, are_of_one, count_of, first_uses, lacking_of, summary, uses_from, uses_in}
 use Rattle.brl_stream.specs.Noting.{IsNoted, entries_of, entry_of}
-use Rattle.brl_stream.specs.declared.lacking.Found.{Found}
+use Rattle.brl_stream.specs.declared.lacking.Uses.{Uses}
 use Rattle.brl_stream.specs.declared.lacking.Lacking.{Lacking}
 use Rattle.brl_stream.specs.declared.lacking.Noted.{Noted}
 
@@ -128,15 +128,15 @@ first-apart (u ∷ us) = (any-others u u (first_uses us) (nat_eq-itself u.0), ap
 -- ---- Entries
 
 -- the entries in which that of a character is set: in its place, or last
-abbrev set_entry : List (ℕ × Found) → ℕ → Found → List (ℕ × Found)
+abbrev set_entry : List (ℕ × Uses) → ℕ → Uses → List (ℕ × Uses)
 set_entry [] c x = (c, x) ∷ []
 set_entry (e ∷ es) c x = cond (nat_eq c e.0) ((e.0, x) ∷ es) (e ∷ set_entry es c x)
 
-lookup-set : (es : List (ℕ × Found)) (c q : ℕ) (x : Found) → lookup (nat_eq q) (set_entry es c x) ≡ cond (nat_eq c q) (Some x) (lookup (nat_eq q) es)
+lookup-set : (es : List (ℕ × Uses)) (c q : ℕ) (x : Uses) → lookup (nat_eq q) (set_entry es c x) ≡ cond (nat_eq c q) (Some x) (lookup (nat_eq q) es)
 lookup-set [] c q x = ap (λ b. cond b (Some x) None) (nat_eq-sym q c)
 lookup-set (e ∷ es) c q x = cases (nat_eq c e.0) refl (nat_eq q e.0) refl (lookup-set es c q x)
   where
-    rest : Option Found
+    rest : Option Uses
     rest = lookup (nat_eq q) es
 
     twice : (d : Bool) → cond d (Some x) rest ≡ cond d (Some x) (cond d (Some e.1) rest)
@@ -190,7 +190,7 @@ module _ (all : List Use) (v : Use) where
           let more = stay k in
           λ j. (w.0, record { count = count j; line = w.1 }) ∷ more j
 
-  new-entry : (fs : List Use) (x : Found) → lookup (nat_eq v.0) (map (entry_of all) fs) ≡ None
+  new-entry : (fs : List Use) (x : Uses) → lookup (nat_eq v.0) (map (entry_of all) fs) ≡ None
       → (set_entry (map (entry_of all) fs) v.0 x ≡ map (entry_of all) fs ++ (v.0, x) ∷ []) × (list_any (are_of_one v) fs ≡ false)
   new-entry [] x h = (refl, refl)
   new-entry (w ∷ ws) x h = cases (are_of_one v w) h (new-entry ws x)
@@ -204,12 +204,12 @@ module _ (all : List Use) (v : Use) where
           some_is e = cc
       cases false k more = let m = more k in (ap (λ es. entry_of all w ∷ es) m.0, m.1)
 
-  known-entry : (fs : List Use) (found : Found) → AreApart fs → lookup (nat_eq v.0) (map (entry_of all) fs) ≡ Some found
+  known-entry : (fs : List Use) (found : Uses) → AreApart fs → lookup (nat_eq v.0) (map (entry_of all) fs) ≡ Some found
       → (set_entry (map (entry_of all) fs) v.0 (record { count = found.count + 1; line = found.line }) ≡ map (entry_of (all ++ v ∷ [])) fs) × (list_any (are_of_one v) fs ≡ true)
   known-entry [] found apart h = cc
   known-entry (w ∷ ws) found apart h = cases (are_of_one v w) refl h (known-entry ws found apart.1)
     where
-      x : Found
+      x : Uses
       x = record { count = found.count + 1; line = found.line }
 
       cases : (b : Bool) → are_of_one v w ≡ b → cond b (Some (entry_of all w).1) (lookup (nat_eq v.0) (map (entry_of all) ws)) ≡ Some found
@@ -234,7 +234,7 @@ module _ (all : List Use) (v : Use) where
   entries-new : lookup (nat_eq v.0) (entries_of all) ≡ None
       → (set_entry (entries_of all) v.0 (record { count = 1; line = v.1 }) ≡ entries_of (all ++ v ∷ [])) × (characters_of (all ++ v ∷ []) ≡ characters_of all ++ v.0 ∷ [])
   entries-new h =
-      let x : Found = record { count = 1; line = v.1 } in
+      let x : Uses = record { count = 1; line = v.1 } in
       let fs = first_uses all in
       let new = new-entry fs x h in
       let zero_before = none-counted all v new.1 in
@@ -248,7 +248,7 @@ module _ (all : List Use) (v : Use) where
       )
 
   -- a character is noted again where it was
-  entries-again : (found : Found) → lookup (nat_eq v.0) (entries_of all) ≡ Some found
+  entries-again : (found : Uses) → lookup (nat_eq v.0) (entries_of all) ≡ Some found
       → (set_entry (entries_of all) v.0 (record { count = found.count + 1; line = found.line }) ≡ entries_of (all ++ v ∷ [])) × (characters_of (all ++ v ∷ []) ≡ characters_of all)
   entries-again found h =
       let fs = first_uses all in
@@ -257,7 +257,7 @@ module _ (all : List Use) (v : Use) where
       (known.0 ∙ ap (map (entry_of (all ++ v ∷ []))) (sym more), ap (map character_of) more)
 
   -- what is found of each character, after this of one of them
-  found-set : (x : Found) (m n : BTreeMap ℕ Found) → ((q : ℕ) → get_by (nat_cmp q) m ≡ lookup (nat_eq q) (entries_of all))
+  found-set : (x : Uses) (m n : BTreeMap ℕ Uses) → ((q : ℕ) → get_by (nat_cmp q) m ≡ lookup (nat_eq q) (entries_of all))
       → ((q : ℕ) → get_by (nat_cmp q) n ≡ cond (is_at (nat_cmp v.0) q) (Some x) (get_by (nat_cmp q) m)) → set_entry (entries_of all) v.0 x ≡ entries_of (all ++ v ∷ [])
       → (q : ℕ) → get_by (nat_cmp q) n ≡ lookup (nat_eq q) (entries_of (all ++ v ∷ []))
   found-set x m n before updates same q =
@@ -275,7 +275,7 @@ module _ (all : List Use) (v : Use) where
       }
 
   -- a character was noted again
-  pub noted-again : (old new : Noted) (found : Found) → IsNoted all old → get_by (nat_cmp v.0) old.found ≡ Some found → new.order.items ≡ old.order.items
+  pub noted-again : (old new : Noted) (found : Uses) → IsNoted all old → get_by (nat_cmp v.0) old.found ≡ Some found → new.order.items ≡ old.order.items
       → ((q : ℕ) → get_by (nat_cmp q) new.found ≡ cond (is_at (nat_cmp v.0) q) (Some (record { count = found.count + 1; line = found.line })) (get_by (nat_cmp q) old.found)) → IsNoted (all ++ v ∷ []) new
   noted-again old new found noted there order updates =
       let is = entries-again found (sym (noted.each v.0) ∙ there) in
@@ -285,7 +285,7 @@ module _ (all : List Use) (v : Use) where
       }
 
 -- a count is at most the number of uses
-pub few-found : (all : List Use) (c : ℕ) (noted : Noted) (found : Found) → IsNoted all noted → get_by (nat_cmp c) noted.found ≡ Some found → found.count ≤ length all
+pub few-found : (all : List Use) (c : ℕ) (noted : Noted) (found : Uses) → IsNoted all noted → get_by (nat_cmp c) noted.found ≡ Some found → found.count ≤ length all
 few-found all c noted found is there = among (first_uses all) (sym (is.each c) ∙ there)
   where
     among : (fs : List Use) → lookup (nat_eq c) (map (entry_of all) fs) ≡ Some found → found.count ≤ length all
@@ -303,15 +303,15 @@ few-found all c noted found is there = among (first_uses all) (sym (is.each c) �
 -- ---- The list
 
 -- a character in the list, where something was found of it
-abbrev pub listed : ℕ → Option Found → List Lacking
-listed c found = option_map_or (λ (f : Found). record { character = c; count = f.count; line = f.line } ∷ []) found []
+abbrev pub listed : ℕ → Option Uses → List Lacking
+listed c found = option_map_or (λ (f : Uses). record { character = c; count = f.count; line = f.line } ∷ []) found []
 
 abbrev lacking_use : List Use → Use → Lacking
 lacking_use all one = record { character = one.0; count = count_of all one; line = one.1 }
 
 module _ (all : List Use) where
   -- another entry first changes nothing for others
-  listed-behind : (e : ℕ × Found) (es : List (ℕ × Found)) (w : Use) (xs : List Use) → e.0 ≡ w.0 → list_any (are_of_one w) xs ≡ false
+  listed-behind : (e : ℕ × Uses) (es : List (ℕ × Uses)) (w : Use) (xs : List Use) → e.0 ≡ w.0 → list_any (are_of_one w) xs ≡ false
       → flat_map (λ c. listed c (lookup (nat_eq c) (e ∷ es))) (map character_of xs) ≡ flat_map (λ c. listed c (lookup (nat_eq c) es)) (map character_of xs)
   listed-behind e es w [] is h = refl
   listed-behind e es w (x ∷ xs) is h = cases (are_of_one w x) refl h (listed-behind e es w xs is)
@@ -333,7 +333,7 @@ module _ (all : List Use) where
       ap (λ b. listed w.0 (cond b (Some (entry_of all w).1) (lookup (nat_eq w.0) (map (entry_of all) ws))) ++ flat_map (λ c. listed c (lookup (nat_eq c) (entry_of all w ∷ map (entry_of all) ws))) (map character_of ws)) (nat_eq-itself w.0)
       ∙ ap (λ rest. lacking_use all w ∷ rest) (listed-behind (entry_of all w) (map (entry_of all) ws) w ws refl apart.0 ∙ listed-all ws apart.1)
 
-  listed-same : (found : BTreeMap ℕ Found) (es : List (ℕ × Found)) → ((c : ℕ) → get_by (nat_cmp c) found ≡ lookup (nat_eq c) es) → (cs : List ℕ)
+  listed-same : (found : BTreeMap ℕ Uses) (es : List (ℕ × Uses)) → ((c : ℕ) → get_by (nat_cmp c) found ≡ lookup (nat_eq c) es) → (cs : List ℕ)
       → flat_map (λ c. listed c (get_by (nat_cmp c) found)) cs ≡ flat_map (λ c. listed c (lookup (nat_eq c) es)) cs
   listed-same found es same [] = refl
   listed-same found es same (c ∷ cs) = ap (λ f. listed c f ++ flat_map (λ c. listed c (get_by (nat_cmp c) found)) cs) (same c) ∙ ap (λ rest. listed c (lookup (nat_eq c) es) ++ rest) (listed-same found es same cs)
@@ -344,7 +344,7 @@ module _ (all : List Use) where
       ∙ listed-all (first_uses all) (first-apart all)
 
 -- one character more of the list
-pub listed-more : (found : BTreeMap ℕ Found) (cs : List ℕ) (i c : ℕ) → i < length cs → c ≡ get_or cs i c
+pub listed-more : (found : BTreeMap ℕ Uses) (cs : List ℕ) (i c : ℕ) → i < length cs → c ≡ get_or cs i c
     → flat_map (λ c. listed c (get_by (nat_cmp c) found)) (take (i + 1) cs) ≡ flat_map (λ c. listed c (get_by (nat_cmp c) found)) (take i cs) ++ listed c (get_by (nat_cmp c) found)
 listed-more found cs i c within is =
     ap (flat_map (λ c. listed c (get_by (nat_cmp c) found))) (take_more cs i c within ∙ ap (λ x. take i cs ++ x ∷ []) (sym is))

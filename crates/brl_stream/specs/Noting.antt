@@ -4,15 +4,15 @@ use Rattle.std.specs.BTreeMap.{get_by}
 use Rattle.std.specs.Map.{lookup}
 use Rattle.std.specs.Ordering.{nat_cmp}
 use Rattle.brl_stream.specs.Lacking.{Use, count_of, first_uses}
-use Rattle.brl_stream.specs.declared.lacking.Found.{Found}
+use Rattle.brl_stream.specs.declared.lacking.Uses.{Uses}
 use Rattle.brl_stream.specs.declared.lacking.Noted.{Noted}
 
 -- what is noted of the character of a use among these uses
-abbrev pub entry_of : List Use → Use → ℕ × Found
+abbrev pub entry_of : List Use → Use → ℕ × Uses
 entry_of uses one = (one.0, record { count = count_of uses one; line = one.1 })
 
 -- what is noted of each character of these uses, in the order of their first uses
-abbrev pub entries_of : List Use → List (ℕ × Found)
+abbrev pub entries_of : List Use → List (ℕ × Uses)
 entries_of uses = map (entry_of uses) (first_uses uses)
 
 -- these uses were noted, and no others

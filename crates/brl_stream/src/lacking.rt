@@ -18,7 +18,7 @@ pub struct Lacking {
 
 /// How often a character was found, and the number of the first line that has it, from 1.
 #[derive(Clone, Copy)]
-pub struct Found {
+pub struct Uses {
     count: u64,
     line: u64,
 }
@@ -29,7 +29,7 @@ pub struct Found {
 pub struct Noted {
     /// Each once, in the order of their first uses.
     order: Vec<char>,
-    found: BTreeMap<char, Found>,
+    found: BTreeMap<char, Uses>,
 }
 
 impl Noted {
@@ -63,13 +63,13 @@ fn note_use(character: char, number: u64, noted: &mut Noted) -> Result<(), Alloc
     ensures { OnOk result ((uses : List Use) → IsNoted uses noted.old → IsNoted (uses ++ (character, number) ∷ []) noted.new) }
 {
     let found = match noted.found.get(&character) {
-        Some(found) => Found {
+        Some(found) => Uses {
             count: found.count + 1,
             line: found.line,
         },
         None => {
             noted.order.push(character)?;
-            Found {
+            Uses {
                 count: 1,
                 line: number,
             }

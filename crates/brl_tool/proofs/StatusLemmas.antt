@@ -33,8 +33,8 @@ use Rattle.brl_clashes.proofs.Verdicts.{none_clash, only_accepted, other_clash}
 use Rattle.brl_clashes.specs.Sections.{are_whole, lists_none, outcome_of}
 use Rattle.brl_clashes.specs.declared.accepted.Taken.{Taken}
 use Rattle.brl_clashes.specs.declared.section.Section.{Section}
-use Rattle.brl_clashes.specs.declared.verdict.Outcome.{Outcome}
-use Rattle.brl_clashes.specs.declared.verdict.Outcome.TheVariants.{Unambiguous, Clashing, Unfinished}
+use Rattle.brl_clashes.specs.declared.verdict.ListOutcome.{ListOutcome}
+use Rattle.brl_clashes.specs.declared.verdict.ListOutcome.TheVariants.{Unambiguous, Clashing, Unfinished}
 use Rattle.brl_table.specs.Reading.{PassesAll, table_of}
 use Rattle.brl_tool.specs.Baselines.{AreExcused, AreFilesWith, IsBaseline, is_written, leaves_stale, read_paths, written_path, written_text}
 use Rattle.brl_traces.specs.Traces.{ClashesDivergeAtWithout}
@@ -125,12 +125,12 @@ done_none : (stale : Bool) → (if stale then Faulty else Done) ≡ Refuted → 
 done_none true e = cc
 done_none false e = cc
 
-no_pair : (taken : Option Taken) (o : Outcome) → status_of_sections taken o ≡ Done → o ≡ Unambiguous
+no_pair : (taken : Option Taken) (o : ListOutcome) → status_of_sections taken o ≡ Done → o ≡ Unambiguous
 no_pair taken Unambiguous e = refl
 no_pair taken Clashing e = absurd cc
 no_pair taken Unfinished e = absurd cc
 
-some_pair : (taken : Option Taken) (o : Outcome) → status_of_sections taken o ≡ Refuted → o ≡ Clashing
+some_pair : (taken : Option Taken) (o : ListOutcome) → status_of_sections taken o ≡ Refuted → o ≡ Clashing
 some_pair taken Unambiguous e = absurd (done_none (leaves_stale taken) e)
 some_pair taken Clashing e = refl
 some_pair taken Unfinished e = absurd cc

@@ -12,8 +12,8 @@ use Rattle.brl_clashes.specs.ClashesText.{IsClashesText}
 use Rattle.brl_clashes.specs.Sections.{AreSections, outcome_of}
 use Rattle.brl_clashes.specs.declared.accepted.Taken.{Taken}
 use Rattle.brl_clashes.specs.declared.section.Section.{Section}
-use Rattle.brl_clashes.specs.declared.verdict.Outcome.{Outcome}
-use Rattle.brl_clashes.specs.declared.verdict.Outcome.TheVariants.{Unambiguous, Clashing, Unfinished}
+use Rattle.brl_clashes.specs.declared.verdict.ListOutcome.{ListOutcome}
+use Rattle.brl_clashes.specs.declared.verdict.ListOutcome.TheVariants.{Unambiguous, Clashing, Unfinished}
 use Rattle.brl_cli.specs.declared.command.AlphabetOption.{AlphabetOption}
 use Rattle.brl_cli.specs.declared.command.PairFiles.{PairFiles}
 use Rattle.brl_lines.specs.Answer.{FileAnswers}
@@ -27,7 +27,7 @@ use Rattle.brl_without.specs.Alphabet.{AlphabetView, left_out_by}
 
 -- the status for an outcome of sections, beside what a file takes out of them: where no pair is
 -- left, and stale lines stay in the file, that is a fault
-abbrev pub status_of_sections : Option Taken → Outcome → Status
+abbrev pub status_of_sections : Option Taken → ListOutcome → Status
 status_of_sections taken Unambiguous = if leaves_stale taken then Faulty else Done
 status_of_sections taken Clashing = Refuted
 status_of_sections taken Unfinished = Undecided

@@ -17,7 +17,7 @@ use crate::notices::write_if_without_characters;
 use brl_accepted::StaleLines;
 use brl_answers::{Answer, Files, RunFault, Status};
 use brl_clashes::{
-    Extent, Outcome, Section, Taken, list_sections, outcome_of, sections_text, without_accepted,
+    Extent, ListOutcome, Section, Taken, list_sections, outcome_of, sections_text, without_accepted,
 };
 use brl_cli::{AlphabetOption, PairFiles};
 use brl_lines::{Line, load};
@@ -42,7 +42,7 @@ pub struct ListedClashes<'a> {
 /// What is listed of the clashes of a table that is loaded: `left_out` is what the alphabet leaves
 /// out of it.
 #[derive(Clone, Copy)]
-struct Wanted<'a> {
+struct ListRequest<'a> {
     limit: u32,
     first: u32,
     alphabet: &'a Alphabet,
@@ -52,9 +52,8 @@ struct Wanted<'a> {
 
 /// Lists the pairs of rules of the table whose file is at a path at which clashing texts diverge,
 /// for texts of the characters of which the option says that they are made. It is read first. The
-/// pairs that
-/// the file at `pairs.accept` names are left out, and those that are left go to the file at
-/// `pairs.write`, unless there may be others. Its stale lines name none; with `pairs.prune` they
+/// pairs that the file at `pairs.accept` names are left out, and those that are left go to the file
+/// at `pairs.write`, unless there may be others. Its stale lines name none; with `pairs.prune` they
 /// are taken out of it. Standard error gets these lines, and reports of progress.
 /// `PairsWouldOverwrite` where the file that is written is one of the table's, or that of the
 /// accepted pairs and not its own; `NotDefined` where the table lacks characters of the option.
@@ -74,14 +73,14 @@ pub fn list_clashes_by_words<F: Files, E: Write + Progress>(
     refuse_file_that_is_read(alloc, files, &read, asked.pairs)?;
     let loaded = LoadedTable::of(alloc, read)?;
     let left_out = alphabet.left_out(alloc, &loaded.table)?;
-    let wanted = Wanted {
+    let request = ListRequest {
         limit: asked.limit,
         first: asked.first,
         alphabet: &alphabet,
         left_out: &left_out,
         pairs: asked.pairs,
     };
-    list_clashes(alloc, files, &loaded, wanted, err)
+    list_clashes(alloc, files, &loaded, request, err)
 }
 
 /// Lists the clashes of a table that has the characters of the alphabet. The file of accepted pairs
@@ -90,25 +89,25 @@ fn list_clashes<F: Files, E: Write + Progress>(
     alloc: Global,
     files: &mut F,
     loaded: &LoadedTable,
-    wanted: Wanted<'_>,
+    request: ListRequest<'_>,
     err: &mut E,
 ) -> Result<Answer, RunFault>
-    requires { wanted.left_out.now ≡ left_out_by loaded.now.table (alphabet_view wanted.alphabet.now) }
-    ensures diagnoses { ByBaseline (F.gives files.old) (option_copied wanted.entry.pairs.accept)
-        (λ baseline. UnlessMemory (IsDiagnosis (alphabet_view wanted.entry.alphabet.now) loaded.now.table loaded.now.files.lines wanted.entry.limit wanted.entry.first
-        baseline wanted.entry.pairs)) result }
+    requires { request.left_out.now ≡ left_out_by loaded.now.table (alphabet_view request.alphabet.now) }
+    ensures diagnoses { ByBaseline (F.gives files.old) (option_copied request.entry.pairs.accept)
+        (λ baseline. UnlessMemory (IsDiagnosis (alphabet_view request.entry.alphabet.now) loaded.now.table loaded.now.files.lines request.entry.limit request.entry.first
+        baseline request.entry.pairs)) result }
     ensures count { CountsFailure (F.faults files.old) (F.faults files.new) (load_outcome result) }
     ensures same { F.gives files.new ≡ F.gives files.old }
 {
-    let Some(path) = wanted.pairs.accept else {
-        return Ok(diagnosis(alloc, loaded, wanted, None, err)?);
+    let Some(path) = request.pairs.accept else {
+        return Ok(diagnosis(alloc, loaded, request, None, err)?);
     };
     let text = text_at(alloc, files, path)?;
     let baseline = Baseline {
         path,
         text: text.as_str(),
     };
-    Ok(diagnosis(alloc, loaded, wanted, Some(baseline), err)?)
+    Ok(diagnosis(alloc, loaded, request, Some(baseline), err)?)
 }
 
 /// Lists a table's clashes beside the pairs that a file excuses. Standard error hears of it first
@@ -116,24 +115,24 @@ fn list_clashes<F: Files, E: Write + Progress>(
 fn diagnosis<E: Write + Progress>(
     alloc: Global,
     loaded: &LoadedTable,
-    wanted: Wanted<'_>,
+    request: ListRequest<'_>,
     baseline: Option<Baseline<'_>>,
     err: &mut E,
 ) -> Result<Answer, AllocError>
-    requires { wanted.left_out.now ≡ left_out_by loaded.now.table (alphabet_view wanted.alphabet.now) }
-    ensures { IfOk result (IsDiagnosis (alphabet_view wanted.entry.alphabet.now) loaded.now.table loaded.now.files.lines wanted.entry.limit wanted.entry.first
-        (option_map (λ file. file.text.now) baseline.entry) wanted.entry.pairs) }
+    requires { request.left_out.now ≡ left_out_by loaded.now.table (alphabet_view request.alphabet.now) }
+    ensures { IfOk result (IsDiagnosis (alphabet_view request.entry.alphabet.now) loaded.now.table loaded.now.files.lines request.entry.limit request.entry.first
+        (option_map (λ file. file.text.now) baseline.entry) request.entry.pairs) }
 {
     let table = &loaded.table;
     write_if_without_characters(table, err);
-    let limit = u64::from(wanted.limit);
-    let sections = list_sections(alloc, table, limit, wanted.left_out, err)?;
+    let limit = u64::from(request.limit);
+    let sections = list_sections(alloc, table, limit, request.left_out, err)?;
     let lines = loaded.files.lines(alloc)?;
     let lines = lines.as_slice();
-    let prune = wanted.pairs.prune;
+    let prune = request.pairs.prune;
     let exempt = excused_pairs(alloc, table, lines, sections.as_slice(), baseline, prune)?;
     write_stale(&exempt.stale, err);
-    answer_beside(alloc, table, lines, wanted, baseline, &exempt, sections)
+    answer_beside(alloc, table, lines, request, baseline, &exempt, sections)
 }
 
 /// Writes the stale lines of a file to standard error. What can't be written there is dropped.
@@ -148,25 +147,25 @@ fn answer_beside(
     alloc: Global,
     table: &Table,
     lines: &[Line<'_>],
-    wanted: Wanted<'_>,
+    request: ListRequest<'_>,
     baseline: Option<Baseline<'_>>,
     exempt: &Exempt,
     sections: Vec<Section>,
 ) -> Result<Answer, AllocError>
-    requires left_out { wanted.left_out.now ≡ left_out_by table.now (alphabet_view wanted.alphabet.now) }
-    requires sections { AreSections table.now (left_out_by table.now (alphabet_view wanted.alphabet.now)) wanted.limit sections.items }
-    requires excused { AreExcused (option_map (λ file. file.text.now) baseline) wanted.pairs.prune table.now (map line_view lines.now) sections.items exempt.now.pairs.items exempt.now.taken }
+    requires left_out { request.left_out.now ≡ left_out_by table.now (alphabet_view request.alphabet.now) }
+    requires sections { AreSections table.now (left_out_by table.now (alphabet_view request.alphabet.now)) request.limit sections.items }
+    requires excused { AreExcused (option_map (λ file. file.text.now) baseline) request.pairs.prune table.now (map line_view lines.now) sections.items exempt.now.pairs.items exempt.now.taken }
     requires kept { string_bytes exempt.now.kept ≡ pruned_text (option_map (λ file. file.text.now) baseline) table.now (map line_view lines.now) sections.items }
-    ensures { IfOk result (IsDiagnosis (alphabet_view wanted.entry.alphabet.now) table.now (map line_view lines.now) wanted.entry.limit wanted.entry.first
-        (option_map (λ file. file.text.now) baseline.entry) wanted.entry.pairs) }
+    ensures { IfOk result (IsDiagnosis (alphabet_view request.entry.alphabet.now) table.now (map line_view lines.now) request.entry.limit request.entry.first
+        (option_map (λ file. file.text.now) baseline.entry) request.entry.pairs) }
 {
     let left = without_accepted(alloc, exempt.pairs.as_slice(), sections)?;
     let status = status_of(exempt.taken, outcome_of(left.as_slice()));
-    let files = file_of_pairs(alloc, table, lines, exempt, left.as_slice(), wanted.pairs)?;
+    let files = file_of_pairs(alloc, table, lines, exempt, left.as_slice(), request.pairs)?;
     let shown = Extent {
-        alphabet: wanted.alphabet,
-        left_out: wanted.left_out,
-        first: wanted.first as usize,
+        alphabet: request.alphabet,
+        left_out: request.left_out,
+        first: request.first as usize,
         accepted: exempt.taken,
     };
     let text = sections_text(alloc, table, lines, shown, left)?;
@@ -178,14 +177,14 @@ fn answer_beside(
 }
 
 /// The status for the outcome of a list, beside what a file takes out of it.
-fn status_of(taken: Option<Taken>, outcome: Outcome) -> Status
+fn status_of(taken: Option<Taken>, outcome: ListOutcome) -> Status
     ensures { result ≡ status_of_sections taken outcome }
 {
     match outcome {
-        Outcome::Unambiguous if leaves_stale(taken) => Status::Faulty,
-        Outcome::Unambiguous => Status::Done,
-        Outcome::Clashing => Status::Refuted,
-        Outcome::Unfinished => Status::Undecided,
+        ListOutcome::Unambiguous if leaves_stale(taken) => Status::Faulty,
+        ListOutcome::Unambiguous => Status::Done,
+        ListOutcome::Clashing => Status::Refuted,
+        ListOutcome::Unfinished => Status::Undecided,
     }
 }
 

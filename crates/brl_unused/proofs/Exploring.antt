@@ -19,7 +19,7 @@ use Rattle.brl_unused.specs.Exploring.{AddsAtMost, AreAllFound, AreFound, AreMar
 use Rattle.brl_unused.specs.Graph.{AreLive, AreWithin, IsLive, final as live_end, step as live_step}
 use Rattle.brl_unused.specs.Taken.{AreTaken, IsOverLimit, IsTaken}
 use Rattle.brl_unused.specs.declared.graph.Transition.{Transition}
-use Rattle.brl_unused.specs.declared.taken.Found.{Found}
+use Rattle.brl_unused.specs.declared.taken.FoundStates.{FoundStates}
 
 -- what holds where there is a value, or none
 pub if_some : {X : Type 0} (o : Option X) (P : X → Type 0) (x : X) → IfSome o P → o ≡ Some x → P x
@@ -30,7 +30,7 @@ if_none (Some x) P h other = absurd (other x refl)
 if_none None P h other = h
 
 -- steps that were yielded are taken, and what was found before them is extended
-pub record AreTakenSoFar {S : Type 0} (m : Behaviour S) (limit : ℕ) (start f : Found S) (number : ℕ) (yielded : List (Step S)) : Type 0 where
+pub record AreTakenSoFar {S : Type 0} (m : Behaviour S) (limit : ℕ) (start f : FoundStates S) (number : ℕ) (yielded : List (Step S)) : Type 0 where
   pub found : AreFound m f
   pub few : length f.states ≤ limit
   pub extends : Extends start f
@@ -62,7 +62,7 @@ module _ {S : Type 0} where
 
 module _ {S : Type 0} (m : Behaviour S) where
   -- the start is the only state, and there are no transitions
-  pub found_first : (f : Found S) (old : List S) → old ≡ [] → AddsAtMost old m.start f.states → f.transitions.items ≡ [] → AreFound m f
+  pub found_first : (f : FoundStates S) (old : List S) → old ≡ [] → AddsAtMost old m.start f.states → f.transitions.items ≡ [] → AreFound m f
   found_first f old none adds no_transitions = record {
     reached = adds_each (Reached m) old m.start f.states adds start (λ k s at. absurd (nothing old none k s at));
     steps = λ t one. absurd (no_member_of f.transitions.items no_transitions t one);
@@ -78,7 +78,7 @@ module _ {S : Type 0} (m : Behaviour S) where
   first_at old new n none (inl same) at = (let within = slice_get_within new n m.start at in let size = ap length (same ∙ none) in absurd (omega (arith, within, size)))
   first_at old new n none (inr one) at = ap (λ (xs : List S). slice_get xs 0) (one ∙ ap (λ (xs : List S). xs ++ m.start ∷ []) none)
 
-  pub passed_first : (limit : ℕ) (f : Found S) (old : List S) → old ≡ [] → AddsAtMost old m.start f.states → limit < length f.states → HavePassed m limit f
+  pub passed_first : (limit : ℕ) (f : FoundStates S) (old : List S) → old ≡ [] → AddsAtMost old m.start f.states → limit < length f.states → HavePassed m limit f
   passed_first limit f old none adds more = record {
     passed = more;
     by_one = (let size = ap length none in let few = adds_by_one old m.start f.states adds in omega (arith, size, few));
@@ -87,19 +87,19 @@ module _ {S : Type 0} (m : Behaviour S) where
 
   -- ---- One more step
 
-  module _ (f : Found S) (found : AreFound m f) (number : ℕ) (s : S) (at : slice_get f.states number ≡ Some s) (x : Step S) (listed : IsListed (m.steps s) x) (states : List S) (adds : AddsAtMost f.states x.next states) where
+  module _ (f : FoundStates S) (found : AreFound m f) (number : ℕ) (s : S) (at : slice_get f.states number ≡ Some s) (x : Step S) (listed : IsListed (m.steps s) x) (states : List S) (adds : AddsAtMost f.states x.next states) where
     next_reached : (k : ℕ) (r : S) → slice_get states k ≡ Some r → Reached m r
     next_reached = adds_each (Reached m) f.states x.next states adds (step (found.reached number s at) listed) found.reached
 
     -- more than the limit allows
-    pub passed_next : (limit : ℕ) (g : Found S) → g.states ≡ states → length f.states ≤ limit → limit < length states → HavePassed m limit g
+    pub passed_next : (limit : ℕ) (g : FoundStates S) → g.states ≡ states → length f.states ≤ limit → limit < length states → HavePassed m limit g
     passed_next limit g same few more = record {
       passed = (let size = ap length same in omega (arith, more, size));
       by_one = (let size = ap length same in let one = adds_by_one f.states x.next states adds in omega (arith, size, one, few));
       reached = λ k r r_at. next_reached k r (subst (λ (xs : List S). slice_get xs k ≡ Some r) same r_at);
     }
 
-    module _ (g : Found S) (same : g.states ≡ states) (to : ℕ) (enters : slice_get states to ≡ Some x.next) (more : g.transitions.items ≡ f.transitions.items ++ record { from = number; rule = x.rule; to = to } ∷ []) where
+    module _ (g : FoundStates S) (same : g.states ≡ states) (to : ℕ) (enters : slice_get states to ≡ Some x.next) (more : g.transitions.items ≡ f.transitions.items ++ record { from = number; rule = x.rule; to = to } ∷ []) where
       t : Transition
       t = record { from = number; rule = x.rule; to = to }
 
@@ -139,13 +139,13 @@ module _ {S : Type 0} (m : Behaviour S) where
 
   -- ---- What was found stays found
 
-  pub has_more : (f g : Found S) → Extends f g → (number : ℕ) (x : Step S) → HasTransition f number x → HasTransition g number x
+  pub has_more : (f g : FoundStates S) → Extends f g → (number : ℕ) (x : Step S) → HasTransition f number x → HasTransition g number x
   has_more f g e number x h = record { transition = h.transition; one = e.transitions h.transition h.one; leaves = h.leaves; of_rule = h.of_rule; enters = e.states h.transition.to x.next h.enters }
 
-  pub extends_refl : (f : Found S) → Extends f f
+  pub extends_refl : (f : FoundStates S) → Extends f f
   extends_refl f = record { states = stays_refl f.states; more = omega arith; transitions = λ t one. one }
 
-  pub extends_trans : (f g h : Found S) → Extends f g → Extends g h → Extends f h
+  pub extends_trans : (f g h : FoundStates S) → Extends f g → Extends g h → Extends f h
   extends_trans f g h a b = record {
     states = stays_trans f.states g.states h.states a.states b.states;
     more = (let x = a.more in let y = b.more in omega (arith, x, y));
@@ -153,12 +153,12 @@ module _ {S : Type 0} (m : Behaviour S) where
   }
 
   -- all steps of the state were taken
-  pub expanded : (f : Found S) (number : ℕ) (s : S) (steps : List (Step S)) → slice_get f.states number ≡ Some s → steps ≡ m.steps s → ((x : Step S) → Contains steps x → HasTransition f number x) → IsExpanded m f number
+  pub expanded : (f : FoundStates S) (number : ℕ) (s : S) (steps : List (Step S)) → slice_get f.states number ≡ Some s → steps ≡ m.steps s → ((x : Step S) → Contains steps x → HasTransition f number x) → IsExpanded m f number
   expanded f number s steps at all each r x r_at listed =
       let same : s ≡ r = same_place f.states number s r at r_at in
       each x (in-Contains x steps (at-in x steps listed.0 (subst (λ (xs : List (Step S)). slice_get xs listed.0 ≡ Some x) (sym (all ∙ ap m.steps same)) listed.1)))
 
-  pub expanded_more : (f g : Found S) → Extends f g → (number : ℕ) → number < length f.states → IsExpanded m f number → IsExpanded m g number
+  pub expanded_more : (f g : FoundStates S) → Extends f g → (number : ℕ) → number < length f.states → IsExpanded m f number → IsExpanded m g number
   expanded_more f g e number within h s x at listed =
       let there = inside f.states number within in
       let same : there.0 ≡ s = same_place g.states number there.0 s (e.states number there.0 there.1) at in
@@ -166,7 +166,7 @@ module _ {S : Type 0} (m : Behaviour S) where
 
   -- ---- All is found
 
-  pub over_limit : (limit : ℕ) (f : Found S) → HavePassed m limit f → HaveOneNumber f.states → IsOverLimit m limit (length f.states)
+  pub over_limit : (limit : ℕ) (f : FoundStates S) → HavePassed m limit f → HaveOneNumber f.states → IsOverLimit m limit (length f.states)
   over_limit limit f h one = record {
     passed = h.passed;
     by_one = h.by_one;
@@ -178,7 +178,7 @@ module _ {S : Type 0} (m : Behaviour S) where
     };
   }
 
-  module _ (f : Found S) (all : AreAllFound m f) where
+  module _ (f : FoundStates S) (all : AreAllFound m f) where
     pub within : AreWithin (length f.states) f.transitions.items
     within t one = (let h = all.found.steps t one in (slice_get_within f.states t.from h.state h.leaves, slice_get_within f.states t.to h.step.next h.enters))
 

@@ -23,7 +23,7 @@ pub enum TakenRules {
 
 /// States that are found, the start first, and steps between them.
 #[derive(Drop)]
-pub struct Found<S: Key> {
+pub struct FoundStates<S: Key> {
     states: Members<S>,
     transitions: Vec<Transition>,
 }
@@ -59,7 +59,7 @@ fn expand<M: Machine>(
     alloc: Global,
     machine: &M,
     limit: u64,
-    found: &mut Found<M::State>,
+    found: &mut FoundStates<M::State>,
     number: usize,
 ) -> Result<bool, AllocError>
     requires small { limit ≤ 4294967295 }
@@ -92,7 +92,7 @@ fn explore<M: Machine, P: Progress>(
     alloc: Global,
     machine: &M,
     limit: u64,
-    found: &mut Found<M::State>,
+    found: &mut FoundStates<M::State>,
     progress: &mut P,
 ) -> Result<bool, AllocError>
     requires small { limit ≤ 4294967295 }
@@ -159,7 +159,7 @@ fn marks_of<M: Machine>(
     alloc: Global,
     machine: &M,
     rules: usize,
-    found: &Found<M::State>,
+    found: &FoundStates<M::State>,
 ) -> Result<Vec<bool>, AllocError>
     requires few { length found.now.states < 2 ^ 32 }
     requires all { AreAllFound (M.behaviour machine.now) found.now }
@@ -185,7 +185,7 @@ pub fn taken_rules<M: Machine, P: Progress>(
     requires { limit ≤ 4294967295 }
     ensures { IfOk result (IsFoundTaken (M.behaviour machine.now) rules limit) }
 {
-    let mut found = Found {
+    let mut found = FoundStates {
         states: Members::new(alloc, seed),
         transitions: Vec::new(alloc),
     };

@@ -1,8 +1,8 @@
 //! The program.
 use brl_accepted::Counts;
 use brl_clashes::{
-    Extent, Kind, Outcome, Section, Taken, are_whole, list_sections, outcome_of, pairs_of_sections,
-    sections_text, without_accepted,
+    Extent, Kind, ListOutcome, Section, Taken, are_whole, list_sections, outcome_of,
+    pairs_of_sections, sections_text, without_accepted,
 };
 use brl_failure::Failure;
 use brl_lines::MapSource;
@@ -106,7 +106,7 @@ fn is_of_letters(sections: &[Section]) -> bool {
     sections.len() == 1
         && matches!(&sections[0].kind, Kind::Letter)
         && are_whole(sections)
-        && matches!(outcome_of(sections), Outcome::Clashing)
+        && matches!(outcome_of(sections), ListOutcome::Clashing)
 }
 
 /// The list of a table's clashes, as an author reads it, where its first pair is accepted or none

@@ -1,7 +1,8 @@
 //! Clashes made small.
+use brl_closure::Texts;
 use brl_forward::{Clash, confirm};
 use brl_rules::Table;
-use brl_search::{Texts, clash_at, small_clash_of};
+use brl_search::{clash_at, small_clash_of};
 use brl_testing::{chars, for_tables_of_4, numbers_of};
 use std::alloc::Global;
 use std::test::Fail;

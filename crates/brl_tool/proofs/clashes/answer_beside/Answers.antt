@@ -21,7 +21,7 @@ content_is baseline false t lines found left kept is = refl
 pub sections_text-requires-clause-clashes : goal.sections_text-requires-clause-clashes
 sections_text-requires-clause-clashes c =
     let beside = subst (λ (accepted : List (ℕ × ℕ)). AreLeftOf accepted c.args.sections.items c.in_ok-left.left.items) c.as_slice.ensures.value c.in_ok-left.ensures in
-    left_are_clashes c.args.table.now (left_out_by c.args.table.now (alphabet_view c.args.wanted.alphabet.now)) c.args.wanted.limit c.args.exempt.now.pairs.items c.args.sections.items c.in_ok-left.left.items c.requires.sections beside
+    left_are_clashes c.args.table.now (left_out_by c.args.table.now (alphabet_view c.args.request.alphabet.now)) c.args.request.limit c.args.exempt.now.pairs.items c.args.sections.items c.in_ok-left.left.items c.requires.sections beside
 
 pub returns : goal.returns
 returns c =
@@ -29,7 +29,7 @@ returns c =
     let lines = map line_view c.args.lines.now in
     let text_of : Baseline → List ℕ = λ file. file.text.now in
     let baseline = option_map text_of c.args.baseline in
-    let pairs = c.args.wanted.pairs in
+    let pairs = c.args.request.pairs in
     let exempt = c.args.exempt.now in
     let left = c.in_ok-left.left.items in
     let content = content_is baseline pairs.prune t lines c.args.sections.items left (string_bytes exempt.kept) c.requires.kept in

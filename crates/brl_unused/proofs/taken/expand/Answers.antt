@@ -8,7 +8,7 @@ use Rattle.brl_pairs.specs.Runs.{Behaviour, IsListed}
 use Rattle.brl_pairs.specs.declared.step.Step.{Step}
 use Rattle.brl_unused.proofs.Exploring.{AreTakenSoFar, expanded, extends_next, extends_trans, found_next, has_more, has_next, if_none, if_some, passed_next}
 use Rattle.brl_unused.specs.Exploring.{AddsAtMost, HasTransition}
-use Rattle.brl_unused.specs.declared.taken.Found.{Found}
+use Rattle.brl_unused.specs.declared.taken.FoundStates.{FoundStates}
 use Rattle.brl_unused.proofs.taken.expand.Goals as goal
 
 -- the state with a number, and one of its steps
@@ -24,8 +24,8 @@ come_to m slice states number s steps place x same within is steps_are at = reco
 }
 
 -- one step more is taken
-one_taken : {S : Type 0} (m : Behaviour S) (limit : ℕ) (start f : Found S) (number : ℕ) (yielded : List (Step S)) → AreTakenSoFar m limit start f number yielded
-    → (s : S) (x : Step S) → At m start.states number s x → (states : List S) → AddsAtMost f.states x.next states → (new : Found S) → new.states ≡ states
+one_taken : {S : Type 0} (m : Behaviour S) (limit : ℕ) (start f : FoundStates S) (number : ℕ) (yielded : List (Step S)) → AreTakenSoFar m limit start f number yielded
+    → (s : S) (x : Step S) → At m start.states number s x → (states : List S) → AddsAtMost f.states x.next states → (new : FoundStates S) → new.states ≡ states
     → (to : ℕ) → slice_get states to ≡ Some x.next → new.transitions.items ≡ f.transitions.items ++ record { from = number; rule = x.rule; to = to } ∷ [] → length states ≤ limit
     → AreTakenSoFar m limit start new number (yielded ++ x ∷ [])
 one_taken m limit start f number yielded so_far s x at states adds new same to enters more few =

@@ -1,6 +1,6 @@
 use Rattle.std.proofs.Common.{◌≡◌, ◌∙◌, ℕ, Some, ap, arith, inl, inr, slice_get, subst, sym}
 use Rattle.brl_unused.specs.Exploring.{AddsAtMost, IsExpanded}
-use Rattle.brl_unused.specs.declared.taken.Found.{Found}
+use Rattle.brl_unused.specs.declared.taken.FoundStates.{FoundStates}
 use Rattle.brl_unused.proofs.Exploring.{expanded_more, first_at, found_first, if_none, if_some, passed_first}
 use Rattle.brl_pairs.proofs.Lists.{three_ways}
 use Rattle.brl_unused.proofs.taken.explore.Goals as goal
@@ -19,7 +19,7 @@ loop-next-init g c =
     let m = g.M.Machine.behaviour c.args.machine.now in
     let old = c.args.found.now.states in
     let new = c.number_of.new.states in
-    let f : Found g.row.M-State.Denot = record { states = new; transitions = c.args.found.now.transitions } in
+    let f : FoundStates g.row.M-State.Denot = record { states = new; transitions = c.args.found.now.transitions } in
     let adds : AddsAtMost old m.start new = subst (λ (s : g.row.M-State.Denot). AddsAtMost old s new) c.start.ensures.start c.in_ok-number_of.ensures.adds in
     let first = c.in-Some.field-0 in
     let there : slice_get new first ≡ Some c.start.result = if_some c.in_ok-number_of.field-0 (λ n. slice_get new n ≡ Some c.start.result) first c.in_ok-number_of.ensures.number c.in-Some.is in

@@ -1,5 +1,5 @@
 use Rattle.brl_search.specs.Smaller.{Keeps}
-use Rattle.brl_search.proofs.small.Wanted.without_blocks.Given as goal
+use Rattle.brl_search.proofs.small.ClashFilter.without_blocks.Given as goal
 
 abbrev pub invariant-loop-size : goal.invariant-loop-size
 invariant-loop-size l = Keeps l.self.table.now l.self.rules l.fn.given l.texts

@@ -1,5 +1,5 @@
 use Rattle.brl_search.proofs.Smallest.{keeps-given, keeps-more}
-use Rattle.brl_search.proofs.small.Wanted.without_blocks.Goals as goal
+use Rattle.brl_search.proofs.small.ClashFilter.without_blocks.Goals as goal
 
 pub loop-size-init : goal.loop-size-init
 loop-size-init c = keeps-given c.args.self.now.table.now c.args.self.now.rules c.args.given c.requires

@@ -2,7 +2,7 @@ use Rattle.std.proofs.Common.{◌+◌, ◌∙◌, arith, subst₂, sym}
 use Rattle.brl_search.specs.Small.{ClashAt}
 use Rattle.brl_search.proofs.Parts.{remove_range-one, text-without}
 use Rattle.brl_search.proofs.Smallest.{keeps-without}
-use Rattle.brl_search.proofs.small.Wanted.without_at.Goals as goal
+use Rattle.brl_search.proofs.small.ClashFilter.without_at.Goals as goal
 
 pub clash_at-requires-clause-left : goal.clash_at-requires-clause-left
 clash_at-requires-clause-left c =

@@ -1,7 +1,7 @@
 use Rattle.std.proofs.Common.{◌≤◌, rules}
 use Rattle.brl_search.proofs.Parts.{text-without}
 use Rattle.brl_search.proofs.Smallest.{keeps-given, keeps-more, keeps-without}
-use Rattle.brl_search.proofs.small.Wanted.without_blocks_of.Goals as goal
+use Rattle.brl_search.proofs.small.ClashFilter.without_blocks_of.Goals as goal
 
 pub loop-start-init : goal.loop-start-init
 loop-start-init c = keeps-given c.args.self.now.table.now c.args.self.now.rules c.args.given c.requires.clash

@@ -1,5 +1,5 @@
 use Rattle.brl_search.proofs.Smallest.{keeps-given, keeps-more}
-use Rattle.brl_search.proofs.small.Wanted.without_characters.Goals as goal
+use Rattle.brl_search.proofs.small.ClashFilter.without_characters.Goals as goal
 
 pub loop-texts-init : goal.loop-texts-init
 loop-texts-init c = keeps-given c.args.self.now.table.now c.args.self.now.rules c.args.given c.requires

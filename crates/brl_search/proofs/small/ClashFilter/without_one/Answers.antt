@@ -1,6 +1,6 @@
 use Rattle.std.proofs.Common.{◌+◌, ◌≤◌, ap, arith, length}
 use Rattle.brl_search.proofs.Smallest.{small-from_none}
-use Rattle.brl_search.proofs.small.Wanted.without_one.Goals as goal
+use Rattle.brl_search.proofs.small.ClashFilter.without_one.Goals as goal
 
 pub returns-clause-none : goal.returns-clause-none
 returns-clause-none c =
