@@ -1,5 +1,6 @@
-//! Tests of texts and tables: cells, lines, rules, tables, translation, and the lines of tables
-//! that have a fault by themselves.
+//! Tests of texts and tables: cells, lines, rules, tables, translation, the lines of tables
+//! that have a fault by themselves, and those that can act on texts over an alphabet.
+mod acting;
 mod again;
 mod cells;
 mod forward;

@@ -1,0 +1,8 @@
+use Rattle.std.proofs.Common.{◌≡◌, flat_map, map, take}
+use Rattle.brl_acting.specs.Readings.{cells_of}
+use Rattle.brl_acting.specs.Sets.{set_view}
+use Rattle.brl_acting.specs.Words.{parts_view}
+use Rattle.brl_acting.proofs.readings.cells_of.Given as goal
+
+abbrev pub invariant-loop-parts : goal.invariant-loop-parts
+invariant-loop-parts l = l.cells.items ≡ flat_map (cells_of (set_view l.near) l.facts) (map parts_view (take l.parts-index l.lines))

@@ -1,0 +1,9 @@
+pub mod Sets
+pub mod Words
+pub mod Forms
+pub mod Capitals
+pub mod Classes
+pub mod Readings
+pub mod Tests
+pub mod Acting
+pub mod WholeTable

@@ -1,0 +1,193 @@
+//! What the lines give that brl reads.
+ghost use Rattle.std.specs.Prelude.{◌≡◌, ◌++◌, IfOk, OnOk, codes, flat_map, map, option_map};
+ghost use Rattle.std.specs.List.{list_any};
+ghost use Rattle.brl_cells.specs.Dots.{reading};
+ghost use Rattle.brl_table.specs.Items.{parts_of as parts_around};
+ghost use Rattle.brl_acting.specs.Capitals.{has_opcode as has_opcode_by};
+ghost use Rattle.brl_acting.specs.Readings.{cells_if, cells_in as cells_by_word, cells_of as cells_by, dots_place as dots_place_by, keeps as keeps_by, keeps_runs as keeps_runs_by, place_if as place_by, readings_by, readings_view, small_by};
+ghost use Rattle.brl_acting.specs.Sets.{is_in, set_view};
+ghost use Rattle.brl_acting.specs.Words.{parts_view};
+
+use crate::bases::has_opcode;
+use crate::char_set::CharSet;
+use crate::class_pairs::chars_or;
+use crate::facts::Facts;
+use crate::form::{Form, form_of};
+use crate::operand::word_at;
+use crate::parts::Parts;
+use crate::rules::{Rule, rules_of};
+use brl_cells::{Cell, read_dots};
+use brl_failure::Failure;
+use std::alloc::{AllocError, Global};
+
+/// What the lines give that brl reads.
+#[derive(Drop)]
+pub(crate) struct Readings<'a> {
+    pub bases: Vec<(char, char)>,
+    /// The cells of texts over the alphabet, as characters with their numbers.
+    pub cells: CharSet,
+    pub rules: Vec<Rule<'a>>,
+    /// Whether a line has `numsign`, also one that isn't read.
+    pub has_numsign: bool,
+    /// Whether `begcapsword` is read.
+    pub keeps_word: bool,
+    /// Whether the other two indicators of capitals are read.
+    pub keeps_runs: bool,
+}
+
+/// The small letter of a capital, by the first line that gives one; another character itself.
+pub(crate) fn small(bases: &[(char, char)], character: char) -> char
+    ensures { result ≡ small_by bases.now character }
+{
+    for (capital, small) in bases {
+        if *capital == character {
+            return *small;
+        }
+    }
+    character
+}
+
+/// Adds the cells that a word spells, as characters with their numbers.
+fn push_cells(alloc: Global, cells: &mut Vec<char>, word: &str) -> Result<(), AllocError>
+    ensures { OnOk result (cells.new.items ≡ cells.old.items ++ cells_by_word word.now) }
+{
+    let (first, second) = parts_of(word);
+    push_part(alloc, cells, first)?;
+    push_part(alloc, cells, second)
+}
+
+/// The two parts of a word around its first comma. Without a comma both are the whole word.
+fn parts_of(word: &str) -> (&str, &str)
+    ensures first { result.0.now ≡ (parts_around word.now).0 }
+    ensures second { result.1.now ≡ (parts_around word.now).1 }
+{
+    match word.split_once(',') {
+        Some(parts) => parts,
+        None => (word, word),
+    }
+}
+
+/// Adds the cells that a part of a word spells.
+fn push_part(alloc: Global, cells: &mut Vec<char>, part: &str) -> Result<(), AllocError>
+    ensures { OnOk result (cells.new.items ≡ cells.old.items ++ cells_if (reading 16 part.now)) }
+{
+    match read_dots(alloc, part, 16) {
+        Ok(found) => push_found(cells, found.as_slice()),
+        Err(Failure::Fault(_)) => Ok(()),
+        Err(Failure::Memory) => Err(AllocError),
+    }
+}
+
+/// Adds cells, as characters with their numbers.
+fn push_found(cells: &mut Vec<char>, found: &[Cell]) -> Result<(), AllocError>
+    ensures { OnOk result (cells.new.items ≡ cells.old.items ++ found.now) }
+{
+    for cell in found {
+        cells.push(char::from(cell.0))?;
+    }
+    Ok(())
+}
+
+/// A place where something is given.
+fn place_if(gives: bool, place: usize) -> Option<usize>
+    ensures { result ≡ place_by gives place }
+{
+    if gives { Some(place) } else { None }
+}
+
+/// The place of the word for the cells of a line of this form, if texts over the alphabet get them.
+fn dots_place(near: &CharSet, facts: Facts, chars: &[char], form: Option<Form>) -> Option<usize>
+    ensures { result ≡ dots_place_by (set_view near.now) facts chars.now form }
+{
+    match form {
+        Some(Form::Defines | Form::Uplow) => place_if(near.has_any(chars), 2),
+        Some(Form::Rule) => place_if(near.has_all(chars), 2),
+        Some(Form::Capitals) => place_if(facts.has_capital, 1),
+        Some(Form::Digits) => place_if(facts.has_digit, 1),
+        _ => None,
+    }
+}
+
+/// Adds the cells that a line gives texts over the alphabet.
+fn push_cells_of(
+    alloc: Global,
+    cells: &mut Vec<char>,
+    near: &CharSet,
+    facts: Facts,
+    parts: &Parts<'_>,
+) -> Result<(), AllocError>
+    ensures { OnOk result (cells.new.items ≡ cells.old.items ++ cells_by (set_view near.now) facts (parts_view parts.now)) }
+{
+    if !parts.kept || parts.nofor {
+        return Ok(());
+    }
+    let words = parts.words.as_slice();
+    let chars = chars_or(alloc, words, 1, &[])?;
+    match dots_place(near, facts, chars.as_slice(), form_of(word_at(words, 0))) {
+        Some(place) => push_cells(alloc, cells, word_at(words, place)),
+        None => Ok(()),
+    }
+}
+
+/// The cells of texts over the alphabet, as characters with their numbers.
+fn cells_of(
+    alloc: Global,
+    near: &CharSet,
+    facts: Facts,
+    lines: &[Parts<'_>],
+) -> Result<Vec<char>, AllocError>
+    ensures { IfOk result (λ cells. cells.items ≡ flat_map (cells_by (set_view near.now) facts) (map parts_view lines.now)) }
+{
+    let mut cells = Vec::new(alloc);
+    for parts in lines {
+        push_cells_of(alloc, &mut cells, near, facts, parts)?;
+    }
+    Ok(cells)
+}
+
+/// Whether a line has this opcode.
+fn has(lines: &[Parts<'_>], word: &str) -> bool
+    ensures { result ≡ list_any (has_opcode_by word.now) (map parts_view lines.now) }
+{
+    lines.iter().any(|parts| has_opcode(parts, word))
+}
+
+/// Whether a kept line has this opcode.
+fn keeps(lines: &[Parts<'_>], word: &str) -> bool
+    ensures { result ≡ keeps_by word.now (map parts_view lines.now) }
+{
+    lines
+        .iter()
+        .any(|parts| parts.kept && has_opcode(parts, word))
+}
+
+/// Whether the other two indicators of capitals are kept.
+fn keeps_runs(lines: &[Parts<'_>]) -> bool
+    ensures { result ≡ keeps_runs_by (map parts_view lines.now) }
+{
+    keeps(lines, "endcapsword") && (keeps(lines, "capsletter") || keeps(lines, "capsign"))
+}
+
+/// What the lines give that brl reads.
+pub(crate) fn readings_of<'a>(
+    alloc: Global,
+    lines: &[Parts<'a>],
+    bases: &[(char, char)],
+    near: &CharSet,
+    facts: Facts,
+) -> Result<Readings<'a>, AllocError>
+    ensures { IfOk result (λ readings. readings_view readings ≡ readings_by (map parts_view lines.now) bases.now (set_view near.now) facts) }
+{
+    let given = cells_of(alloc, near, facts, lines)?;
+    let cells = CharSet::of(alloc, given.as_slice())?;
+    let rules = rules_of(alloc, lines)?;
+    let own = Vec::from_slice(alloc, bases)?;
+    Ok(Readings {
+        bases: own,
+        cells,
+        rules,
+        has_numsign: has(lines, "numsign"),
+        keeps_word: keeps(lines, "begcapsword"),
+        keeps_runs: keeps_runs(lines),
+    })
+}
