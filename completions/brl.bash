@@ -59,7 +59,7 @@ _brl() {
         slips) options='--tsv --path --help' ;;
         check) options='--without --only --accept --path --help' ;;
         survey) options='--brief --path --help' ;;
-        cut) options='--rewrite --path --help' ;;
+        cut) options='--rewrite --only --path --help' ;;
         help) options='' ;;
     esac
 

@@ -57,6 +57,7 @@ complete -c brl -n '__brl_is slips' -l tsv -d 'Write named columns with tabs bet
 complete -c brl -n '__brl_is clash trace' -l escapes -d 'Read texts as they are spelled in tables and reports'
 complete -c brl -n '__brl_is clash trace' -l lines -d 'Show the lines of the table by which each step is made'
 complete -c brl -n '__brl_is survey' -l brief -d 'Leave the list of faults out'
+complete -c brl -n '__brl_is cut' -l only -x -d 'Characters of the texts on which lines may act'
 complete -c brl -n '__brl_is cut' -l rewrite -d 'Also read lines that define a character after noback'
 complete -c brl -n '__brl_is clashes' -l first -x -d 'How many lines of each section are shown'
 complete -c brl -n '__brl_is clashes' -l accept -r -F -d 'Leave the pairs of rules out that this file names'

@@ -5,8 +5,7 @@
 //! isn't met, it acts on no text over the alphabet. `acting` gives the lines whose needs are met.
 //! Where there is none, liblouis writes the same cells for such texts by the whole table as by its
 //! cut. That is a claim of liblouis, found by tests and not proved; what is proved is that `acting`
-//! gives just the lines of the definition. `acting_of_table` gives them of a table that was cut. No
-//! command asks for them yet.
+//! gives just the lines of the definition. `acting_of_table` gives them of a table that was cut.
 //!
 //! `parts` takes prefixes off lines, `form` has the form of an opcode's needs, and `operand` the
 //! characters of operands. `known` has what is known of a table and an alphabet: `reach` which

@@ -29,7 +29,7 @@ mod verdict;
 
 pub use accepted::{Taken, pairs_of_sections, without_accepted};
 pub use clashes_text::{Extent, sections_text};
-pub use kind::Kind;
+pub use kind::{Kind, kept_characters};
 pub use section::Section;
 pub use sections::list_sections;
 pub use sets::character_sets;

@@ -94,11 +94,13 @@ pub enum Question<'a> {
         line: &'a str,
     },
     /// Which lines of the table are read, as a table of its own in the folder `dir`. More lines are
-    /// read where they are rewritten.
+    /// read where they are rewritten. Where characters are given, also which lines of the table can
+    /// act on texts of these.
     Cut {
         table: &'a str,
         dir: &'a str,
         rewrite: bool,
+        only: Option<&'a str>,
     },
     /// What the steps of a text's translation are.
     Trace {

@@ -372,6 +372,7 @@ It prints:
         "cut": "Writes the lines of a table that are read as a table of its own",
         arguments: [
             Argument("rewrite", Switch, "Also read definitions after noback, and base uppercase"),
+            Argument("only", Text("CHARS"), "Say which lines can act on texts of these characters"),
             TABLE,
             Argument("DIR", Operand, "The folder that gets the files"),
         ],
@@ -387,7 +388,15 @@ is misspelt, the exit status is 1. The files are written all the same.
 
 With --rewrite two more forms of lines are read, and written as they are read: a
 line that defines a character after noback, and base uppercase U L, which is
-uplow UL with the dots of L.",
+uplow UL with the dots of L.
+
+With --only it is also said which lines of the whole table can act on texts of
+these characters: lines that are left out, and lines that are read in another
+way than liblouis does. Where none can, what brl search, check, clashes and
+unused say with the same --only holds of TABLE; this rests on what tests found
+of liblouis. Where one can, the exit status is 1, and the files are written all
+the same. CHARS are spelled as in a table, x..y is all characters from x to y
+that the cut defines, and the blank always belongs to them.",
         example: "Example, a table in which one of three lines isn't read:
   printf '%s\\n' 'letter a 1' 'pass2 @1 @2' 'letter b 12' > far.ctb
   brl cut far.ctb near > cut.txt

@@ -148,6 +148,7 @@ fn cut<'a>(found: &ArgMatches<'a>) -> Option<Question<'a>> {
         table: found.get_str("TABLE")?,
         dir: found.get_str("DIR")?,
         rewrite: found.get_flag("rewrite"),
+        only: found.get_str("only"),
     })
 }
 

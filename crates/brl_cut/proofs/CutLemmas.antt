@@ -12,7 +12,7 @@ use Rattle.brl_lines.specs.declared.way.LeftInclude.{LeftInclude}
 use Rattle.brl_lines.specs.declared.gathering.Gathered.{Gathered}
 use Rattle.brl_lines.specs.declared.fault.LoadFault.{LoadFault}
 use Rattle.brl_table.specs.declared.no_table.NoTable.{NoTable}
-use Rattle.brl_cut.specs.Cuts.{include_edit, IsCut, IsCutFault, IsCutOf, IsReadAs, IsUncut, IsUnreadAs, without_include_lines}
+use Rattle.brl_cut.specs.Cuts.{include_edit, IsCut, IsCutFault, IsCutOf, IsRead, IsUncut, IsUnreadAs, without_include_lines}
 use Rattle.brl_cut.specs.Edits.{EditView, Texts, edited_files}
 use Rattle.brl_cut.specs.Rounds.{SettlesTo}
 use Rattle.brl_table.specs.declared.readable.Cut.{Cut}
@@ -33,8 +33,8 @@ without-is left new files e = e ∙ ap (λ (es : List EditView). edited_files es
 pub without-from : {new files same_files : Texts} {left same_left : List LeftView} → new ≡ without_include_lines left files → left ≡ same_left → files ≡ same_files → new ≡ without_include_lines same_left same_files
 without-from {same_files = same_files} {left = left} e l f = e ∙ ap (without_include_lines left) f ∙ ap (λ (ls : List LeftView). without_include_lines ls same_files) l
 
-pub read-as : (files same_files : Texts) (root same_root : List ℕ) → files ≡ same_files → root ≡ same_root → IsReadAs files root → IsReadAs same_files same_root
-read-as files same_files root same_root e d h = subst (λ (r : List ℕ). IsReadAs same_files r) d (subst (λ (fs : Texts). IsReadAs fs root) e h)
+pub read-as : (files same_files : Texts) (root same_root : List ℕ) → files ≡ same_files → root ≡ same_root → IsRead files root → IsRead same_files same_root
+read-as files same_files root same_root e d h = subst (λ (r : List ℕ). IsRead same_files r) d (subst (λ (fs : Texts). IsRead fs root) e h)
 
 pub unread-as : (files same_files : Texts) (root same_root : List ℕ) (why : NoTable) → files ≡ same_files → root ≡ same_root → IsUnreadAs files root why → IsUnreadAs same_files same_root why
 unread-as files same_files root same_root why e d h = subst (λ (r : List ℕ). IsUnreadAs same_files r why) d (subst (λ (fs : Texts). IsUnreadAs fs root why) e h)
@@ -42,9 +42,8 @@ unread-as files same_files root same_root why e d h = subst (λ (r : List ℕ). 
 -- what is cut of the files that were gathered, in the folders of the source, is cut of the table;
 -- and why they aren't cut is why the table isn't
 module _ (rewrite : Bool) (gives : FileAnswers) (root dir : List ℕ) (gathered : Gathered) (is : IsGathered gives root gathered) (folders : List (List ℕ)) (looked : folders ≡ gives.folders) where
-  pub cut-whole : (result : Result Cut (Failure CutFault)) → IfOk result (IsCutOf rewrite folders (gathered_view gathered) root dir) → IfOk result (IsCut rewrite gives root dir)
-  cut-whole (Ok cut) h = (is.0, is.1, gathered_view gathered, is.2, subst (λ (fs : List (List ℕ)). IsCutOf rewrite fs (gathered_view gathered) root dir cut) looked h)
-  cut-whole (Err failure) h = tt
+  pub cut-whole : (cut : Cut) → IsCutOf rewrite folders (gathered_view gathered) root dir cut → IsCut rewrite gives root dir (record { gathered = gathered; cut = cut })
+  cut-whole cut h = (is.0, is.1, is.2, subst (λ (fs : List (List ℕ)). IsCutOf rewrite fs (gathered_view gathered) root dir cut) looked h)
 
   uncut-fault : (why : CutFault) → IsUncut rewrite gives.folders root dir (gathered_view gathered) why → IsCutFault rewrite gives root dir why
   uncut-fault (Gather why) h = absurd h

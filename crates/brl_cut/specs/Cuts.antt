@@ -1,7 +1,7 @@
 -- The readable part of a table as files of their own. The project's own choice.
 use Rattle.std.specs.Prelude.{ℕ, Bool, ◌≡◌, List, [], ◌++◌, codes, map, string_bytes, zip, Ok}
 use Rattle.brl_lines.specs.Answer.{FileAnswers, answer_of, same_answer}
-use Rattle.brl_lines.specs.GatherFaults.{IsGatherFault}
+use Rattle.brl_lines.specs.GatherFaults.{IsGatherFault, gathered_view}
 use Rattle.brl_lines.specs.Gathering.{GatheredView, LeftView, gathered_from}
 use Rattle.brl_lines.specs.Includes.{last_part, path_in}
 use Rattle.brl_lines.specs.Lines.{Answers, answer_at}
@@ -21,6 +21,7 @@ use Rattle.brl_cut.specs.Rewriting.{count_rewritten, rewriting_edits, rewritten_
 use Rattle.brl_cut.specs.Rounds.{IsUnsettled}
 use Rattle.brl_cut.specs.Settling.{IsSettled, bytes_at, comment, fault_edit}
 use Rattle.brl_table.specs.declared.readable.Cut.{Cut}
+use Rattle.brl_cut.specs.declared.cutting.CutTable.{CutTable}
 use Rattle.brl_cut.specs.declared.cutting.CutFault.{CutFault}
 use Rattle.brl_cut.specs.declared.cutting.CutFault.TheVariants.{Gather, Load, NotRead}
 
@@ -82,10 +83,14 @@ written_files dir names files = map (λ entry. (path_in dir entry.0, entry.1.1))
 abbrev pub only : List (List ℕ) → Texts → FileAnswers
 only folders files = record { folders = folders; may = λ path answer. same_answer answer (answer_of (bytes_at files path)) }
 
--- these files, and no others, define a table with its root at a path, and are looked for in no
+-- these files, and no others, define this table with its root at a path, and are looked for in no
 -- folders
-abbrev pub IsReadAs : Texts → List ℕ → Type 0
-IsReadAs files root = (t : TableView) × IsTableOf (only [] files) root t
+abbrev pub IsReadAs : Texts → List ℕ → TableView → Type 0
+IsReadAs files root t = IsTableOf (only [] files) root t
+
+-- they define a table
+abbrev pub IsRead : Texts → List ℕ → Type 0
+IsRead files root = (t : TableView) × IsReadAs files root t
 
 -- these files define none, and this is why
 abbrev pub IsUnreadAs : Texts → List ℕ → NoTable → Type 0
@@ -105,13 +110,14 @@ pub record IsCutOf (rewrite : Bool) (folders : List (List ℕ)) (gathered : Gath
   pub left_out_are : map faulty_line_view cut.left_out.items ≡ map include_fault gathered.left_out ++ found
   pub kept_are : map string_bytes cut.line_files.items ≡ map (λ line. line.file) lines
   pub rewritten_is : cut.rewritten ≡ count_rewritten (start_edits rewrite folders root gathered) lines
-  pub read : IsReadAs (written_files dir gathered.names (finished (start_edits rewrite folders root gathered) found gathered)) (written_root dir root)
+  pub read : IsRead (written_files dir gathered.names (finished (start_edits rewrite folders root gathered) found gathered)) (written_root dir root)
 
--- the cut of the table whose root has a path, for answers of the source
-abbrev pub IsCut : Bool → FileAnswers → List ℕ → List ℕ → Cut → Type 0
-IsCut rewrite gives root dir cut =
-    (answers : Answers) × AreGiven gives answers × (gathered : GatheredView) × (gathered_from gives.folders (answer_at answers) root ≡ Ok gathered)
-    × IsCutOf rewrite gives.folders gathered root dir cut
+-- the cut of the table whose root has a path, for answers of the source: of these files, as they
+-- were gathered
+abbrev pub IsCut : Bool → FileAnswers → List ℕ → List ℕ → CutTable → Type 0
+IsCut rewrite gives root dir of =
+    (answers : Answers) × AreGiven gives answers × (gathered_from gives.folders (answer_at answers) root ≡ Ok (gathered_view of.gathered))
+    × IsCutOf rewrite gives.folders (gathered_view of.gathered) root dir of.cut
 
 -- files that were gathered can't be settled, or what is written is no table
 abbrev pub IsUncut : Bool → List (List ℕ) → List ℕ → List ℕ → GatheredView → CutFault → Type 0

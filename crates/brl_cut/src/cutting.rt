@@ -1,19 +1,21 @@
 //! The readable part of a table.
 ghost use Rattle.std.specs.Prelude.{◌≡◌, IfErr, IfOk, OnOk, map, string_bytes};
-ghost use Rattle.brl_failure.specs.Failure.{IfFault};
+ghost use Rattle.brl_failure.specs.Failure.{GivesAs, IfFault};
 ghost use Rattle.brl_lines.specs.GatherFaults.{gathered_view};
-ghost use Rattle.brl_lines.specs.Views.{location_view};
-ghost use Rattle.brl_cut.specs.Cuts.{IsCut, IsCutFault, IsCutOf, IsReadAs, IsUncut, IsUnreadAs, finished, start_edits, start_files};
+ghost use Rattle.brl_lines.specs.Views.{load_fault_view, location_view};
+ghost use Rattle.brl_cut.specs.Cuts.{IsCut, IsCutFault, IsCutOf, IsRead, IsReadAs, IsUncut, IsUnreadAs, finished, start_edits, start_files, without_includes};
 ghost use Rattle.brl_table.specs.Survey.{faulty_line_view};
 ghost use Rattle.brl_cut.specs.Files.{edit_view, file_view};
+ghost use Rattle.brl_cut.specs.Settling.{lines_among};
 
-use crate::files::{Edit, edit_files, edits_of, source_of, with_comments};
+use crate::files::{Edit, edit_files, edits_of, load_files, source_of, with_comments};
 use crate::includes::include_faults;
 use crate::placing::{place_files, written_root};
 use crate::rewriting::{Rewritten, count_rewritten, rewrite_files};
 use crate::rounds::{Settled, settle};
 use brl_failure::{Failure, raise};
-use brl_lines::{GatherFault, Gathered, GatheredFile, LoadFault, Location, Source, gather};
+use brl_lines::{GatherFault, Gathered, GatheredFile, LoadFault, Loaded, Location, Source, gather};
+use brl_rules::Table;
 use brl_table::{Cut, FaultyLine, NoTable, load_table};
 use std::alloc::{AllocError, Global};
 use thiserror::Error;
@@ -32,6 +34,13 @@ pub enum CutFault {
     NotRead(NoTable),
 }
 
+/// The files of a table, as they were gathered, and the cut of it.
+#[derive(Drop)]
+pub struct CutTable {
+    pub gathered: Gathered,
+    pub cut: Cut,
+}
+
 /// The paths of files.
 fn paths_of(alloc: Global, files: &[GatheredFile]) -> Result<Vec<String>, AllocError>
     ensures { IfOk result (λ paths. map string_bytes paths.items ≡ map (λ file. file.0) (map file_view files.now)) }
@@ -43,15 +52,46 @@ fn paths_of(alloc: Global, files: &[GatheredFile]) -> Result<Vec<String>, AllocE
     Ok(paths)
 }
 
-/// Reads the table whose root is at a path, of these files and no others, which are looked for in
-/// no folders.
-fn check_read(alloc: Global, files: &[GatheredFile], root: &str) -> Result<(), Failure<NoTable>>
-    ensures read { OnOk result (IsReadAs (map file_view files.now) root.now) }
+/// The table whose root is at a path, of these files and no others, which are looked for in no
+/// folders. `Load` where a file can't be loaded, `Table` where a line is faulty: neither comes of
+/// the files of a cut.
+pub fn read_back(
+    alloc: Global,
+    files: &[GatheredFile],
+    root: &str,
+) -> Result<Table, Failure<NoTable>>
+    ensures table { IfOk result (IsReadAs (map file_view files.now) root.now) }
     ensures fault { IfErr result (IfFault (IsUnreadAs (map file_view files.now) root.now)) }
 {
     let mut source = source_of(alloc, &[], files)?;
-    load_table(alloc, &mut source, root)?;
+    load_table(alloc, &mut source, root)
+}
+
+/// Whether the files can be read so.
+fn check_read(alloc: Global, files: &[GatheredFile], root: &str) -> Result<(), Failure<NoTable>>
+    ensures read { OnOk result (IsRead (map file_view files.now) root.now) }
+    ensures fault { IfErr result (IfFault (IsUnreadAs (map file_view files.now) root.now)) }
+{
+    read_back(alloc, files, root)?;
     Ok(())
+}
+
+/// All lines of a table whose files are gathered, and were looked for in these folders too, as they
+/// were: without the include lines that are left out. The fault is why they can't be loaded.
+pub fn load_whole(
+    alloc: Global,
+    folders: &[String],
+    gathered: &Gathered,
+    root: &str,
+) -> Result<Loaded, Failure<LoadFault>>
+    ensures { GivesAs (λ loaded. loaded.lines) load_fault_view (lines_among (map string_bytes folders.now) (without_includes (gathered_view gathered.now)) root.now) result }
+{
+    let files = with_comments(
+        alloc,
+        gathered.files.as_slice(),
+        gathered.left_out.as_slice(),
+    )?;
+    load_files(alloc, folders, files.as_slice(), root)
 }
 
 /// The path of the file of each place.
@@ -125,13 +165,14 @@ pub fn cut_table<S: Source>(
     root: &str,
     dir: &str,
     rewrite: bool,
-) -> Result<Cut, Failure<CutFault>>
+) -> Result<CutTable, Failure<CutFault>>
     ensures cut { IfOk result (IsCut rewrite (S.gives source.old) root.now dir.now) }
     ensures fault { IfErr result (IfFault (IsCutFault rewrite (S.gives source.old) root.now dir.now)) }
     ensures same { S.gives source.new ≡ S.gives source.old }
 {
     let gathered = raise(gather(alloc, source, root), CutFault::Gather)?;
-    cut_gathered(alloc, source.folders(), &gathered, root, dir, rewrite)
+    let cut = cut_gathered(alloc, source.folders(), &gathered, root, dir, rewrite)?;
+    Ok(CutTable { gathered, cut })
 }
 
 /// Cuts a table whose files are gathered, and were looked for in these folders too.

@@ -24,5 +24,6 @@ mod skipping;
 mod text;
 
 pub use brl_table::Cut;
-pub use cutting::{CutFault, cut_table};
+pub use cutting::{CutFault, CutTable, cut_table, load_whole, read_back};
+pub use placing::written_root;
 pub use skipping::{WithoutDictionaries, load_without_dictionaries};

@@ -8,7 +8,7 @@ use std::alloc::{AllocError, Global};
 
 /// The path where the root that has a path is written into a folder: under the last part of its
 /// path.
-pub(crate) fn written_root(alloc: Global, dir: &str, root: &str) -> Result<String, AllocError>
+pub fn written_root(alloc: Global, dir: &str, root: &str) -> Result<String, AllocError>
     ensures { IfOk result (λ written. string_bytes written ≡ root_written dir.now root.now) }
 {
     path_in(alloc, dir, last_part(root))

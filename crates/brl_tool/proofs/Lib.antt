@@ -8,3 +8,4 @@ pub mod OfFiles
 pub mod RunLemmas
 pub mod SearchLemmas
 pub mod UnusedLemmas
+pub mod ActingLemmas

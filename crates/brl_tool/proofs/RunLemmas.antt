@@ -20,7 +20,7 @@ use Rattle.brl_lines.specs.Answer.{FileAnswers, Holds, MayAnswer}
 use Rattle.brl_lines.specs.Tokens.{LineView}
 use Rattle.brl_table.specs.Reading.{table_of}
 use Rattle.brl_tool.specs.Baselines.{IsBaseline, is_written, pruned_text, written_path, written_text}
-use Rattle.brl_tool.specs.Running.{IsPairsText, KeepsFilesRefuted, MayGainFiles, MeansRefuted, Performs, ReportsClash, ReportsClashes, ReportsRefusal, ReportsSlips, ReportsSuspect, ReportsUnknown, ReportsUnused, WritesFile, stream_status}
+use Rattle.brl_tool.specs.Running.{IsPairsText, KeepsFilesRefuted, MayGainFiles, MeansRefuted, Performs, ReportsClash, ReportsClashes, ReportsRefusal, ReportsSlips, ReportsSuspect, ReportsCut, ReportsUnused, WritesFile, stream_status}
 
 -- files that give the same may answer the same
 same_may : {before after : FileAnswers} → after ≡ before → after.may ≡ before.may
@@ -43,7 +43,7 @@ module _ (before after : World) (same_file : MayBeSame) (input : Option (List �
   abbrev pub IsReported : Type 0
   IsReported =
       ReportsClash before after ⊎ ReportsRefusal before after ⊎ ReportsClashes before after ⊎ ReportsUnused before after ⊎ ReportsSuspect before after
-      ⊎ ReportsUnknown before after ⊎ ReportsSlips before after
+      ⊎ ReportsCut before after ⊎ ReportsSlips before after
 
   -- which report was written
   report_of : (asked : Question) → MeansRefuted asked before after → IsReported
@@ -53,7 +53,7 @@ module _ (before after : World) (same_file : MayBeSame) (input : Option (List �
   report_of (question.Clashes path limit first option pairs) means = inr (inr (inl (path.now, option, pairs, means)))
   report_of (question.Unused path limit option) means = inr (inr (inr (inl means)))
   report_of (question.Survey paths brief) means = inr (inr (inr (inr (inl means))))
-  report_of (question.Cut path dir rewrite) means = inr (inr (inr (inr (inr (inl (path.now, dir.now, rewrite, means))))))
+  report_of (question.Cut path dir rewrite only) means = inr (inr (inr (inr (inr (inl (path.now, dir.now, rewrite, (only, means)))))))
   report_of (question.Slips path columns) means = inr (inr (inr (inr (inr (inr means)))))
   report_of asked means = absurd means
 
@@ -86,7 +86,7 @@ module _ (before after : World) (same_file : MayBeSame) (input : Option (List �
   gains (question.Unused path limit option) means keeps = inl (same_may keeps)
   gains (question.Survey paths brief) means keeps = inl (same_may keeps)
   gains (question.Slips path columns) means keeps = inl (same_may keeps)
-  gains (question.Cut path dir rewrite) means (files, new, written, read) = inr (inr (files, (new, written.0, written.1.1)))
+  gains (question.Cut path dir rewrite only) means (files, new, written, read) = inr (inr (files, (new, written.0, written.1.1)))
   gains asked means keeps = absurd means
 
   -- it wrote a report, and changed no other file

@@ -1,5 +1,10 @@
 -- What the status says of what was delivered.
-use Rattle.std.proofs.Common.{◌≡◌, ◌≢◌, ◌∙◌, ℕ, suc, Bool, ap, true, false, cond, List, [], ◌∷◌, All, arith, length, map, inl, inr, Option, None, Some, Result, Ok, Err, refl, subst, sym}
+use Rattle.std.proofs.Common.{◌≡◌, ◌≢◌, ◌∙◌, ◌⊎◌, ℕ, suc, Bool, ap, true, false, cond, List, [], ◌∷◌, All, arith, length, map, inl, inr, Option, None, Some, Result, Ok, Err, refl, subst, sym}
+use Rattle.brl_acting.specs.WholeTable.{ActingView}
+use Rattle.brl_cut.specs.Files.{file_view}
+use Rattle.brl_table.specs.declared.readable.Cut.{Cut}
+use Rattle.brl_tool.specs.Cutting.{new_file_view, status_of_cut, status_over}
+use Rattle.std.specs.Global.{Vec}
 use Rattle.std.specs.Option.{option_copied}
 use Rattle.std.proofs.lemmas.Bool.{eqb-true}
 use Rattle.std.specs.Prelude.{◌==◌, ◌||◌, flat_map, if◌then◌else◌, is_some, nat_lt, string_bytes}
@@ -39,7 +44,7 @@ use Rattle.brl_table.specs.Reading.{PassesAll, table_of}
 use Rattle.brl_tool.specs.Baselines.{AreExcused, AreFilesWith, IsBaseline, is_written, leaves_stale, read_paths, written_path, written_text}
 use Rattle.brl_traces.specs.Traces.{ClashesDivergeAtWithout}
 use Rattle.brl_tool.specs.Diagnosing.{IsDiagnosis, status_of_sections}
-use Rattle.brl_cut.specs.Cuts.{IsReadAs, written_root}
+use Rattle.brl_cut.specs.Cuts.{IsRead, written_root}
 use Rattle.brl_cut.specs.Edits.{Texts}
 use Rattle.brl_tool.specs.Comparing.{IsComparison}
 use Rattle.brl_tool.specs.Unused.{status_of_list, status_of_unused, text_of_unused}
@@ -61,6 +66,7 @@ use Rattle.brl_tool.specs.Suspects.{has_unknown_opcode}
 use Rattle.brl_table.specs.Survey.{faulty_line_view}
 use Rattle.brl_answers.specs.Status.{status_of}
 use Rattle.brl_answers.specs.declared.answer.Answer.{Answer}
+use Rattle.brl_answers.specs.declared.new_files.NewFile.{NewFile}
 use Rattle.brl_answers.specs.declared.new_files.NewFiles.{NewFiles}
 use Rattle.brl_answers.specs.declared.new_files.NewFiles.TheVariants.{Nothing, InPlace, AllNew}
 use Rattle.brl_answers.specs.declared.run_fault.RunFault.{RunFault}
@@ -91,6 +97,15 @@ unrefuted false e = cc
 unknown_left : (unknown : Bool) → cond unknown Refuted Done ≡ Refuted → unknown ≡ true
 unknown_left true e = refl
 unknown_left false e = absurd cc
+
+-- and whether a line can act
+none_acts : (status : Status) (acting : List ActingView) → status_over status (length acting) ≡ Done → acting ≡ []
+none_acts status [] e = refl
+none_acts status (line ∷ acting) e = cc
+
+some_act : (status : Status) (acting : List ActingView) → status_over status (length acting) ≡ Refuted → (status ≡ Refuted) ⊎ (acting ≢ [])
+some_act status [] e = inl e
+some_act status (line ∷ acting) e = inr (λ none. cc)
 
 -- a list of slips is refuted only where something is shown
 unless_none : (none : Bool) → (if none then Done else Refuted) ≡ Refuted → none ≡ false
@@ -300,6 +315,13 @@ module _ (before after : World) (same_file : MayBeSame) where
     written = list_file (written_path pairs) (is_written pairs.prune d.taken d.left) (written_text pairs.prune baseline (table_of lines) lines d.found d.left) answer.files d.files files;
   }
 
+  -- the files of a cut were written, and define a table
+  table_written : (path dir : List ℕ) (made : Vec NewFile) (cut : Cut) (texts : Texts) (files : NewFiles) → files ≡ AllNew made → map new_file_view made.items ≡ map file_view cut.files.items
+      → map file_view cut.files.items ≡ texts → IsRead texts (written_root dir path) → FilesAfter before.gives after.gives files → WritesTable before after path dir
+  table_written path dir made cut texts files are same files_are read written =
+      let (new, after_files) = subst (FilesAfter before.gives after.gives) are written in
+      (made.items, new, after_files, subst (λ (fs : Texts). IsRead fs (written_root dir path)) (sym (same ∙ files_are)) read)
+
   means : (asked : Question) (answer : Answer) → IsAnswerTo asked answer → Means asked answer
   unfolding list_written
   means (question.Clash path left right options) answer compares files prints =
@@ -328,14 +350,29 @@ module _ (before after : World) (same_file : MayBeSame) where
     (λ done. tt),
     (λ refuted. ((path.now, (lines, at, (is.lexicon, is.found, is.are, some_shown is.found (sym is.status ∙ refuted))), (string_bytes answer.text, prints)), subst (FilesAfter before.gives after.gives) is.files files)),
   )
-  means (question.Cut path dir rewrite) answer cuts files prints =
-      let (cut, (answers, given, gathered, gathers, is), (status, text, (made, are, same))) = then_ok cuts in
-      let written : FilesAfter before.gives after.gives (AllNew made) = subst (FilesAfter before.gives after.gives) are files in
-      let read = subst (λ (fs : Texts). IsReadAs fs (written_root dir.now path.now)) (sym (same ∙ is.files_are)) is.read in
-      let table : WritesTable before after path.now dir.now = (made.items, written.0, written.1, read) in (
-        (λ done. table),
+  means (question.Cut path dir rewrite None) answer cuts files prints =
+      let (of, (answers, given, gathers, is), (status, text, (made, are, same))) = then_ok cuts in
+      let table = table_written path.now dir.now made of.cut _ answer.files are same is.files_are is.read files in (
+        (λ done. (table, tt)),
         (λ refuted. (
-          (table, (cut, (answers, given, gathered, gathers, is), unknown_left (has_unknown_opcode (map faulty_line_view cut.left_out.items)) (sym status ∙ refuted))),
+          (table, inl (of, (answers, given, gathers, is), unknown_left (has_unknown_opcode (map faulty_line_view of.cut.left_out.items)) (sym status ∙ refuted))),
+          table,
+        )),
+      )
+  means (question.Cut path dir rewrite (Some word)) answer cuts files prints =
+      let (alphabet, spelled, after_alphabet) = then_ok cuts in
+      let (of, (answers, given, gathers, is), after_cut) = then_ok after_alphabet in
+      let (acting, act, (status, text, (made, are, same))) = then_ok after_cut in
+      let table = table_written path.now dir.now made of.cut _ answer.files are same is.files_are is.read files in (
+        (λ done. (table, (alphabet, spelled, (of, (answers, given, gathers, is), (acting, act, none_acts (status_of_cut of.cut) acting (sym status ∙ done)))))),
+        (λ refuted. (
+          (
+            table,
+            elim (some_act (status_of_cut of.cut) acting (sym status ∙ refuted)) [
+              | inl unknown ↦ inl (of, (answers, given, gathers, is), unknown_left (has_unknown_opcode (map faulty_line_view of.cut.left_out.items)) unknown)
+              | inr some ↦ inr (alphabet, spelled, (of, (answers, given, gathers, is), (acting, act, some)))
+            ],
+          ),
           table,
         )),
       )
@@ -451,7 +488,7 @@ module _ (before after : World) (same_file : MayBeSame) where
 
   keeps : (asked : Question) (outcome : Result Answer RunFault) (status : Status) → Answers asked before.gives same_file outcome → Delivers outcome before after status → KeepsFilesUnlessWritten asked before after
   keeps (question.Search path out limit accept option) outcome status is delivers = tt
-  keeps (question.Cut path dir rewrite) outcome status is delivers = tt
+  keeps (question.Cut path dir rewrite only) outcome status is delivers = tt
   keeps (question.Clash path left right options) (Ok answer) status compares (written, writes, e) =
       let (l, left_read, after_left) = then_ok compares in
       let (r, right_read, after_right) = then_ok after_left in

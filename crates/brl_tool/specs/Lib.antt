@@ -1,6 +1,7 @@
 pub mod Running
 pub mod ByLines
 pub mod Comparing
+pub mod Acting
 pub mod Cutting
 pub mod Explaining
 pub mod Listing

@@ -1,6 +1,7 @@
 -- What a run of the program does. The project's own choice. `same` says which paths may name one
 -- file, `input` what is left of the input where that is known.
 use Rattle.std.specs.Prelude.{ℕ, ◌≡◌, ◌≢◌, ◌<◌, ◌==◌, ◌⊎◌, All, Bool, true, false, if◌then◌else◌, IsTrue, length, List, [], ◌++◌, map, Option, None, Some, Result, Ok, Err, String, codes, string_bytes}
+use Rattle.std.specs.Borrow.{Bor}
 use Rattle.std.specs.Global.{Global, Vec}
 use Rattle.std.specs.Option.{option_copied}
 use Rattle.brl_accept.specs.Excusing.{IsAcceptedUpTo, IsShown}
@@ -29,8 +30,9 @@ use Rattle.brl_tool.specs.Baselines.{IsBaseline, is_written, pruned_text, text_o
 use Rattle.brl_tool.specs.ByLines.{shown_lines}
 use Rattle.brl_tool.specs.Comparing.{ComparesByWords}
 use Rattle.brl_tool.specs.Diagnosing.{Diagnoses, IsDiagnosis}
-use Rattle.brl_cut.specs.Cuts.{IsCut, IsReadAs, written_root}
-use Rattle.brl_tool.specs.Cutting.{CutsByFile, new_file_view}
+use Rattle.brl_cut.specs.Cuts.{IsCut, IsRead, written_root}
+use Rattle.brl_tool.specs.Acting.{AreActing}
+use Rattle.brl_tool.specs.Cutting.{Cuts, new_file_view}
 use Rattle.brl_tool.specs.Explaining.{Explains}
 use Rattle.brl_tool.specs.Listing.{ListsByFile}
 use Rattle.brl_answers.specs.Answers.{HasTextAndStatus, with_alphabet_line}
@@ -44,7 +46,8 @@ use Rattle.brl_tool.specs.Streams.{TranslatesByFile}
 use Rattle.brl_tool.specs.Surveying.{IsSuspectAt, SurveysByFiles, no_verdict}
 use Rattle.brl_tool.specs.Suspects.{has_unknown_opcode}
 use Rattle.brl_table.specs.Survey.{faulty_line_view}
-use Rattle.brl_table.specs.declared.readable.Cut.{Cut}
+use Rattle.brl_acting.specs.WholeTable.{ActingView}
+use Rattle.brl_cut.specs.declared.cutting.CutTable.{CutTable}
 use Rattle.brl_tool.specs.Tracing.{TracesByWord}
 use Rattle.brl_tool.specs.Unused.{ListsUnused}
 use Rattle.brl_tool.specs.Excusing.{Excuses, lines_with}
@@ -56,6 +59,7 @@ use Rattle.brl_answers.specs.declared.status.Status.TheVariants.{Done, Faulty, R
 use Rattle.brl_failure.specs.declared.failure.Failure.{Failure}
 use Rattle.brl_failure.specs.declared.failure.Failure.TheVariants as failures
 use Rattle.brl_cli.specs.declared.command.AlphabetOption.{AlphabetOption}
+use Rattle.brl_cli.specs.declared.command.AlphabetOption.TheVariants as alphabets
 use Rattle.brl_cli.specs.declared.command.NotATask.{NotATask}
 use Rattle.brl_cli.specs.declared.command.NotATask.TheVariants as not_a_task
 use Rattle.brl_cli.specs.declared.command.PairFiles.{PairFiles}
@@ -79,7 +83,7 @@ Answers (question.Rules path numbers) gives same outcome = ListsByFile gives pat
 Answers (question.Unused path limit option) gives same outcome = ListsUnused option gives path.now limit outcome
 Answers (question.Slips path columns) gives same outcome = ListsSlips gives path.now outcome
 Answers (question.Explain line) gives same outcome = Explains gives line.now outcome
-Answers (question.Cut path dir rewrite) gives same outcome = CutsByFile rewrite gives path.now dir.now outcome
+Answers (question.Cut path dir rewrite only) gives same outcome = Cuts only rewrite gives path.now dir.now outcome
 Answers (question.Check path cert accept option) gives same outcome =
     ChecksAll gives path.now cert.now (option_copied accept) option outcome
 Answers (question.Search path out limit accept option) gives same outcome =
@@ -204,24 +208,44 @@ ReportsCertificate before after path out accept option =
 abbrev pub WritesTable : World → World → List ℕ → List ℕ → Type 0
 WritesTable before after path dir =
     (files : List NewFile) × AreNew before.gives files × AreWritten files before.gives after.gives
-    × IsReadAs (map new_file_view files) (written_root dir path)
+    × IsRead (map new_file_view files) (written_root dir path)
 
 -- the text of a survey was written, which finds that the table at some path is suspect: it has a
 -- line whose opcode is none of liblouis', or no line that defines a character
 abbrev pub ReportsSuspect : World → World → Type 0
 ReportsSuspect before after = (path : List ℕ) × IsSuspectAt before.gives path × ((text : List ℕ) × Prints before after (text ++ no_verdict))
 
--- the table at the path was cut, and written as a table; a line that is left out has an opcode that
--- is none of liblouis'
-abbrev pub CutsUnknown : World → World → List ℕ → List ℕ → Bool → Type 0
-CutsUnknown before after path dir rewrite =
-    WritesTable before after path dir
-    × ((cut : Cut) × IsCut rewrite before.gives path dir cut × (has_unknown_opcode (map faulty_line_view cut.left_out.items) ≡ true))
+-- this holds of the lines of the table at the path that can act on texts of the characters that a
+-- word spells, where it was cut for a folder
+abbrev pub HoldsOfActing : FileAnswers → List ℕ → List ℕ → Bool → Bor (List ℕ) → (List ActingView → Type 0) → Type 0
+HoldsOfActing gives path dir rewrite word holds =
+    (alphabet : AlphabetView) × (spelled_by (alphabets.Only word) ≡ Some alphabet)
+    × ((of : CutTable) × IsCut rewrite gives path dir of × ((acting : List ActingView) × AreActing gives.folders path dir alphabet of acting × holds acting))
 
--- the table at some path was cut into some folder, and a line that is left out has an unknown
--- opcode
-abbrev pub ReportsUnknown : World → World → Type 0
-ReportsUnknown before after = (path dir : List ℕ) × (rewrite : Bool) × CutsUnknown before after path dir rewrite
+-- where characters are given, no line can act, or some line can
+abbrev pub NoneActs : Option (Bor (List ℕ)) → FileAnswers → List ℕ → List ℕ → Bool → Type 0
+NoneActs None gives path dir rewrite = Unit {0}
+NoneActs (Some word) gives path dir rewrite = HoldsOfActing gives path dir rewrite word (λ acting. acting ≡ [])
+
+abbrev pub SomeAct : Option (Bor (List ℕ)) → FileAnswers → List ℕ → List ℕ → Bool → Type 0
+SomeAct None gives path dir rewrite = ⊥
+SomeAct (Some word) gives path dir rewrite = HoldsOfActing gives path dir rewrite word (λ acting. acting ≢ [])
+
+-- the table at the path was cut, and a line that is left out has an opcode that is none of
+-- liblouis'
+abbrev pub HasUnknown : FileAnswers → List ℕ → List ℕ → Bool → Type 0
+HasUnknown gives path dir rewrite =
+    (of : CutTable) × IsCut rewrite gives path dir of × (has_unknown_opcode (map faulty_line_view of.cut.left_out.items) ≡ true)
+
+-- the table at the path was cut, and written as a table; a line that is left out has an unknown
+-- opcode, or a line can act
+abbrev pub CutsRefuted : World → World → List ℕ → List ℕ → Bool → Option (Bor (List ℕ)) → Type 0
+CutsRefuted before after path dir rewrite only =
+    WritesTable before after path dir × (HasUnknown before.gives path dir rewrite ⊎ SomeAct only before.gives path dir rewrite)
+
+-- the table at some path was cut so into some folder
+abbrev pub ReportsCut : World → World → Type 0
+ReportsCut before after = (path dir : List ℕ) × (rewrite : Bool) × ((only : Option (Bor (List ℕ))) × CutsRefuted before after path dir rewrite only)
 
 -- the slips and twins of the table at some path were written
 abbrev pub ReportsSlips : World → World → Type 0
@@ -235,7 +259,7 @@ MeansDone (question.Search path out limit accept option) before after =
 MeansDone (question.Clashes path limit first option pairs) before after =
     ReportsNoOther before after path.now option pairs
 MeansDone (question.Unused path limit option) before after = ReportsNoUnused before after path.now option
-MeansDone (question.Cut path dir rewrite) before after = WritesTable before after path.now dir.now
+MeansDone (question.Cut path dir rewrite only) before after = WritesTable before after path.now dir.now × NoneActs only before.gives path.now dir.now rewrite
 MeansDone asked before after = Unit {0}
 
 -- what it means that something was refuted; a trace, a list of rules and an explanation never say
@@ -249,7 +273,7 @@ MeansRefuted (question.Clashes path limit first option pairs) before after =
 MeansRefuted (question.Unused path limit option) before after = ReportsUnused before after
 MeansRefuted (question.Survey paths brief) before after = ReportsSuspect before after
 MeansRefuted (question.Slips path columns) before after = ReportsSlips before after
-MeansRefuted (question.Cut path dir rewrite) before after = CutsUnknown before after path.now dir.now rewrite
+MeansRefuted (question.Cut path dir rewrite only) before after = CutsRefuted before after path.now dir.now rewrite only
 MeansRefuted asked before after = ⊥
 
 -- no file changes, but one at a path that is asked for
@@ -260,14 +284,14 @@ KeepsFilesBut (Some path) before after = OthersStay before.gives after.gives pat
 -- no file changes, unless a table was searched or cut, or pairs of rules are to be written
 abbrev pub KeepsFilesUnlessWritten : Question → World → World → Type 0
 KeepsFilesUnlessWritten (question.Search path out limit accept option) before after = Unit {0}
-KeepsFilesUnlessWritten (question.Cut path dir rewrite) before after = Unit {0}
+KeepsFilesUnlessWritten (question.Cut path dir rewrite only) before after = Unit {0}
 KeepsFilesUnlessWritten (question.Clashes path limit first option pairs) before after = KeepsFilesBut (written_path pairs) before after
 KeepsFilesUnlessWritten asked before after = KeepsFiles before after
 
 -- no file changes where something was refuted, but the one that is written with a list of clashes,
 -- and the new files of a cut
 abbrev pub KeepsFilesRefuted : Question → World → World → Type 0
-KeepsFilesRefuted (question.Cut path dir rewrite) before after = WritesTable before after path.now dir.now
+KeepsFilesRefuted (question.Cut path dir rewrite only) before after = WritesTable before after path.now dir.now
 KeepsFilesRefuted (question.Clashes path limit first option pairs) before after = KeepsFilesBut (written_path pairs) before after
 KeepsFilesRefuted asked before after = KeepsFiles before after
 
@@ -333,7 +357,7 @@ abbrev pub ReportsOne : Looked → World → Type 0
 ReportsOne looked after =
     (folders : Vec (String Global)) × (ReportsClash (looked folders) after ⊎ ReportsRefusal (looked folders) after
     ⊎ ReportsClashes (looked folders) after ⊎ ReportsUnused (looked folders) after
-    ⊎ ReportsSuspect (looked folders) after ⊎ ReportsUnknown (looked folders) after ⊎ ReportsSlips (looked folders) after)
+    ⊎ ReportsSuspect (looked folders) after ⊎ ReportsCut (looked folders) after ⊎ ReportsSlips (looked folders) after)
 
 -- what is written to the file at a path: pairs of rules of a table; or the text that the file had,
 -- without its stale lines

@@ -14,6 +14,7 @@
 //! Room 5, the program (docs/dev/ARCHITECTURE.md). The definitions begin in `specs/Running.antt`.
 #![tactic(auto)]
 
+mod acting;
 mod alphabet;
 mod baselines;
 mod certificate;
@@ -47,7 +48,7 @@ pub use brl_stream::{
 pub use check::{CheckedFiles, check_by_words};
 pub use clash::compare_by_words;
 pub use clashes::{ListedClashes, list_clashes_by_words};
-pub use cut::cut_by_file;
+pub use cut::{CutRequest, cut_by_words};
 pub use explain::explain_line;
 pub use program::run;
 pub use rules::list_rules_by_file;

@@ -6,7 +6,7 @@ ghost use Rattle.brl_tool.specs.Running.{Answers, Asks, IsStatus, MayGainFiles, 
 use crate::check::{CheckedFiles, check_by_words};
 use crate::clash::compare_by_words;
 use crate::clashes::{ListedClashes, list_clashes_by_words};
-use crate::cut::cut_by_file;
+use crate::cut::{CutRequest, cut_by_words};
 use crate::explain::explain_line;
 use crate::rules::list_rules_by_file;
 use crate::search::{SearchedFiles, search_by_words};
@@ -204,7 +204,16 @@ fn answer<F: Files, E: Write + Progress>(
             table,
             dir,
             rewrite,
-        } => cut_by_file(alloc, files, table, dir, rewrite),
+            only,
+        } => {
+            let asked = CutRequest {
+                table,
+                dir,
+                rewrite,
+                only,
+            };
+            cut_by_words(alloc, files, asked)
+        }
         Question::Slips { table, columns } => list_slips_by_file(alloc, files, table, columns),
         Question::Check {
             table,

@@ -1,6 +1,10 @@
 //! Cells, lines, tables and translation.
+use brl_acting::{ActingLine, acting_of_table};
 use brl_cells::{Cell, Cells, DotsFault, read_dots, to_ascii, to_unicode, write_dots};
-use brl_cut::{Cut, CutFault, WithoutDictionaries, cut_table, load_without_dictionaries};
+use brl_cut::{
+    Cut, CutFault, CutTable, WithoutDictionaries, cut_table, load_whole, load_without_dictionaries,
+    read_back, written_root,
+};
 use brl_failure::Failure;
 use brl_forward::{Clash, ConfirmFault, ForwardFault, Traced, confirm, trace, translate};
 use brl_lines::{
@@ -238,8 +242,19 @@ fn is_cut(cut: &Cut) -> bool {
 fn has_a_cut(alloc: Global) -> Result<bool, Fail> {
     let mut files = one_file(alloc, "t.ctb", b"letter a 1\ninclude u\npass2 @1 2\n")?;
     let gathered: Result<Gathered, Failure<GatherFault>> = gather(alloc, &mut files, "t.ctb");
-    let cut: Result<Cut, Failure<CutFault>> = cut_table(alloc, &mut files, "t.ctb", "o", false);
-    Ok(is_gathered(&gathered?) && is_cut(&cut?))
+    let of: Result<CutTable, Failure<CutFault>> = cut_table(alloc, &mut files, "t.ctb", "o", false);
+    let of = of?;
+    Ok(is_gathered(&gathered?) && is_cut(&of.cut) && can_act(alloc, &of)?)
+}
+
+/// Whether two lines of a table can act on texts of `a`, which its cut defines.
+fn can_act(alloc: Global, of: &CutTable) -> Result<bool, Fail> {
+    let root = written_root(alloc, "o", "t.ctb")?;
+    let table = read_back(alloc, of.cut.files.as_slice(), root.as_str())?;
+    let whole = load_whole(alloc, &[], &of.gathered, "t.ctb")?;
+    let left_out = of.cut.left_out.as_slice();
+    let acting: Vec<ActingLine> = acting_of_table(alloc, &whole, &of.gathered, left_out, &['a'])?;
+    Ok(table.char_count() == 1 && acting.len() == 2)
 }
 
 /// Whether a table without its dictionary has one character, `a`.

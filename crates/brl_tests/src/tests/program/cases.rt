@@ -210,6 +210,16 @@ t.ctb: letter a 1|brl,cut,u.ctb,o|||L1 NotFound u.ctb|2
 t.ctb: include u; letter b 1 & one/u: letter a 1; pass2 x & two/u: letter a 2|brl,cut,--path,one,--path,two,t.ctb,o||2 of 3 lines are kept; opcode pass2: 1 (not in the profile); file one/u: 1 of 2 lines are read; no verdict: a cut doesn't decide whether two texts have the same cells||0
 t.ctb: include u & one/u: letter a 1 & o/u: #|brl,cut,--path,one,t.ctb,o|||error: o/u is there already|2
 one/t.ctb: include ../u & one/u: letter a 1|brl,cut,--path,one,t.ctb,o|||error: include ../u at one/t.ctb:1 leads out of the table's folder|2
+t.ctb: letter a 1; letter b 12; space \\s 0|brl,cut,t.ctb,o,--only,a..b||3 of 3 lines are kept; no verdict: a cut doesn't decide whether two texts have the same cells; only: ab; no line can act on these texts: what --only decides of o/t.ctb holds of t.ctb||0
+t.ctb: letter a 1; space \\s 0; letsign 56; emphclass b|brl,cut,t.ctb,o,--only,a||2 of 4 lines are kept; opcode emphclass: 1 (not in the profile); opcode letsign: 1 (not in the profile); file t.ctb: 2 of 4 lines are read; no verdict: a cut doesn't decide whether two texts have the same cells; only: a; can act: opcode letsign: 1, the first at t.ctb:3; 1 line can act on these texts||1
+t.ctb: letter a 1; letter b 12; pass2 @12 2; include n; pass2 @1 3; pass2 @1-1 3|brl,cut,t.ctb,o,--only,a||2 of 6 lines are kept; opcode pass2: 3 (not in the profile); opcode include: 1; file t.ctb: 2 of 6 lines are read; no verdict: a cut doesn't decide whether two texts have the same cells; only: a; can act: opcode pass2: 2, the first at t.ctb:5; can act: opcode include: 1, the first at t.ctb:4; 3 lines can act on these texts||1
+t.ctb: uplow Aa 1; begcaps 56|brl,cut,t.ctb,o,--only,a||1 of 2 lines are kept; opcode begcaps: 1 (not in the profile); file t.ctb: 1 of 2 lines are read; no verdict: a cut doesn't decide whether two texts have the same cells; only: a; no line can act on these texts: what --only decides of o/t.ctb holds of t.ctb||0
+t.ctb: uplow Aa 1; begcaps 56|brl,cut,t.ctb,o,--only,aA||1 of 2 lines are kept; opcode begcaps: 1 (not in the profile); file t.ctb: 1 of 2 lines are read; no verdict: a cut doesn't decide whether two texts have the same cells; only: aA; can act: opcode begcaps: 1, the first at t.ctb:2; 1 line can act on these texts||1
+t.ctb: letter a 1; alway a 2|brl,cut,t.ctb,o,--only,a||1 of 2 lines are kept; opcode alway: 1 (not in liblouis); file t.ctb: 1 of 2 lines are read; no verdict: a cut doesn't decide whether two texts have the same cells; only: a; can act: opcode alway: 1, the first at t.ctb:2; 1 line can act on these texts||1
+t.ctb: letter a 1|brl,cut,t.ctb,o,--only,b|||U10 UndefinedOnly b|2
+t.ctb: letter b 9|brl,cut,t.ctb,o,--only,b|||U10 UndefinedOnly b|2
+|brl,cut,t.ctb,o,--only,a\\q|||U11 BadOnly a\\q|2
+|brl,cut,t.ctb,o,--only,a|||L1 NotFound t.ctb|2
 ";
 
 /// Surveys, in the same form.

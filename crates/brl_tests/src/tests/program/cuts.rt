@@ -1,5 +1,5 @@
 //! Cuts of tables in memory, file by file.
-use brl_cut::{Cut, CutFault, cut_table};
+use brl_cut::{Cut, CutFault, CutTable, cut_table};
 use brl_failure::Failure;
 use brl_testing::{field_of, files_of, for_rows_of_3, for_rows_of_4, words_of};
 use std::alloc::Global;
@@ -55,9 +55,9 @@ fn field_of_cut(alloc: Global, cut: &Cut) -> Result<String, Fail> {
 }
 
 /// What the cut of the table at a path gives.
-fn given(alloc: Global, outcome: Result<Cut, Failure<CutFault>>) -> Result<String, Fail> {
+fn given(alloc: Global, outcome: Result<CutTable, Failure<CutFault>>) -> Result<String, Fail> {
     match outcome {
-        Ok(cut) => field_of_cut(alloc, &cut),
+        Ok(of) => field_of_cut(alloc, &of.cut),
         Err(failure) => Ok(format!(in alloc; "{failure}")?),
     }
 }
