@@ -8,7 +8,7 @@ use Rattle.brl_acting.specs.Sets.{is_one_of}
 use Rattle.brl_acting.specs.declared.form.Form.{Form}
 use Rattle.brl_acting.specs.declared.form.Form.TheVariants.{Never, Defines, Base, Uplow, Grouping, Class, Rule, Block, Match, Text, Pass, Capitals, Digits, DigitList, Mode, Sequence, Letsign}
 
--- emphasis, of which a plain text has none; what is used by other lines alone; back-translation
+-- emphasis, which plain text doesn't have; lists that only other lines use; back-translation
 abbrev pub never_acts : List (List ℕ)
 never_acts =
     codes "emphclass" ∷ codes "begemph" ∷ codes "endemph" ∷ codes "noemphchars" ∷ codes "emphletter" ∷ codes "begemphword"

@@ -40,8 +40,8 @@ is_letter mark = (nat_le 65 mark && nat_le mark 90) || (nat_le 97 mark && nat_le
 abbrev pub ends_name : ℕ → Bool
 ends_name mark = not (is_letter mark || is_among (codes "0123456789.") mark)
 
--- how many marks a string has with the quotation mark that ends it, of which there were some
--- before; 0 for one without an end
+-- how many marks a string has up to the quotation mark that closes it, and with it, where `before`
+-- of them were counted already; 0 for a string that isn't closed
 abbrev pub string_length : ℕ → Bool → List ℕ → ℕ
 string_length before escaped [] = 0
 string_length before escaped (mark ∷ marks) =
@@ -151,6 +151,6 @@ is_pass_item_met known entry = if entry.mark == 64 then is_row_met known entry.t
 abbrev pub is_open : ItemView → Bool
 is_open entry = (entry.mark == 34) && (length entry.text == 0)
 
--- a test of which each item is met
+-- a test can be met: each of its items is met, or a string in it isn't closed
 abbrev pub is_test_met : (ItemView → Bool) → List ℕ → Bool
 is_test_met is_met test = list_any is_open (items test) || list_all is_met (items test)

@@ -54,7 +54,8 @@ continued_places file = flat_map (continued_at file.0) (enumerate_from 0 (rows_o
 
 -- ---- Lines
 
--- a line of a table of which lines at these places are left out, and some are one with a neighbour
+-- A line of a table. Lines at the places `left_out` are left out. For liblouis, lines at the places
+-- `continued` are joined with a neighbour.
 abbrev pub table_line : List (List ℕ × ℕ) → List (List ℕ × ℕ) → LineView → TableLineView
 table_line left_out continued line = record {
   line = line;

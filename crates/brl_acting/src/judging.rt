@@ -33,7 +33,7 @@ fn can_act(
     }
 }
 
-/// The places of the lines that can act, of which the parts are given.
+/// The places of the lines that can act, by the parts of each line.
 fn acting_places(
     alloc: Global,
     known: &Known<'_>,

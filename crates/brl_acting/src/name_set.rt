@@ -5,7 +5,7 @@ ghost use Rattle.brl_acting.specs.Sets.{names_view};
 
 use std::alloc::AllocError;
 
-/// A set of words, of which there are few: names of classes.
+/// A small set of words: the names of classes.
 #[derive(Drop)]
 pub(crate) struct NameSet<'a> {
     pub names: Vec<&'a str>,

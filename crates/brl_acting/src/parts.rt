@@ -59,7 +59,7 @@ fn after_prefixes<'w, 'a>(words: &'w [&'a str]) -> &'w [&'a str]
     rest
 }
 
-/// The words of all prefixes, of which those after them are given.
+/// The words of all prefixes, where `after` has the words that follow them.
 fn prefix_words<'w, 'a>(words: &'w [&'a str], after: &[&'a str]) -> &'w [&'a str]
     requires { map (λ word. word.now) after.now ≡ words_after_prefixes (map (λ word. word.now) words.now) }
     ensures { map (λ word. word.now) result.now ≡ words_of_prefixes (map (λ word. word.now) words.now) }

@@ -1,4 +1,4 @@
-//! The lines of a whole table, of which a cut keeps some, and those of them that can act.
+//! The lines of a whole table: which of them a cut keeps, and which can act.
 ghost use Rattle.std.specs.Prelude.{◌≡◌, ◌++◌, ◌+◌, ◌<◌, ◌^◌, ◌||◌, ℕ, List, IfOk, OnOk, flat_map, map};
 ghost use Rattle.brl_lines.specs.GatherFaults.{gathered_view};
 ghost use Rattle.brl_lines.specs.Gathered.{left_view};

@@ -3,7 +3,8 @@
 //! `alphabet` reads of which characters texts are made. `program` has what each command's words
 //! lead to. `translate`, `clash`, `trace`, `rules`, `survey` and `cut` do the work of these
 //! commands by the files of a table, `search`, `clashes`, `unused` and `check` that of theirs,
-//! `slips` lists rules that look like typing errors, and `explain` has what a fault means.
+//! `acting` finds and reports the lines of a table that can act on some texts, `slips` lists rules
+//! that look like typing errors, and `explain` has what a fault means.
 //! `loaded_table` has the table of a file with its lines, `notices` writes the notices of a table
 //! that is searched or surveyed, `remarks` the rules that are there again, `suspects` has what a
 //! survey or a cut finds that was hardly meant so, and `certificate` has the answer with a
