@@ -1,4 +1,4 @@
-"""What bench/real-tables and bench/ask-liblouis share: liblouis, asked for the cells of texts."""
+"""What the benches of real tables share: liblouis, asked for the cells of texts."""
 
 import subprocess
 import sys
@@ -33,6 +33,11 @@ def text_of(spelled: str) -> str:
     return text
 
 
+def spelled(char: str) -> str:
+    """A character as an operand spells it."""
+    return f"\\x{ord(char):04x}" if ord(char) < 0x10000 else f"\\z{ord(char):08x}"
+
+
 def can_be_asked(pair: Pair) -> bool:
     """Whether liblouis can be asked about two texts."""
     try:
@@ -61,3 +66,11 @@ def are_alike(table: Path | str, pairs: list[Pair]) -> list[bool]:
     texts = [text_of(it) for pair in pairs for it in pair]
     found = marks(table, texts) if texts else []
     return [left == right for left, right in zip(found[::2], found[1::2])]
+
+
+def package_version() -> str:
+    try:
+        ran = subprocess.run(["dpkg-query", "-W", "-f", "${Version}", "liblouis-data"], capture_output=True, text=True)
+    except FileNotFoundError:
+        return "of another system"
+    return ran.stdout or "of another system"

@@ -1,4 +1,4 @@
-"""What bench/search and bench/check share: the tables, and the processor seconds of a command."""
+"""What the benches share: tables, the processor seconds of a command, and runs with bounds."""
 
 import os
 import subprocess
@@ -66,6 +66,19 @@ def run(words: list[object]) -> Run:
         line = out.readline().rstrip("\n")
     told = line or f"no verdict, status {started.returncode}"
     return Run(used.ru_utime + used.ru_stime, used.ru_maxrss // 1024, told)
+
+
+class Bounded:
+    """A program whose runs have bounds: processor seconds, and megabytes of memory."""
+
+    def __init__(self, program: Path, seconds: int, megabytes: int) -> None:
+        self.program, self.bounds = program, [str(seconds), str(megabytes * 1000)]
+
+    def run(self, *words: str | Path, given: str = "") -> tuple[int, str, str]:
+        """The status of a run with this input, its output, and its standard error."""
+        bounded = ["sh", "-c", 'ulimit -t "$1" && ulimit -v "$2" || exit; shift 2; exec "$@"', "sh", *self.bounds, self.program, *words]
+        ran = subprocess.run(bounded, capture_output=True, text=True, errors="replace", input=given)
+        return ran.returncode, ran.stdout, ran.stderr
 
 
 def best(words: list[object]) -> Run:

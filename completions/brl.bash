@@ -58,7 +58,7 @@ _brl() {
         unused) options='--limit --without --only --path --help' ;;
         slips) options='--tsv --path --help' ;;
         check) options='--without --only --accept --path --help' ;;
-        survey) options='--brief --path --help' ;;
+        survey) options='--brief --only --path --help' ;;
         cut) options='--rewrite --only --path --help' ;;
         help) options='' ;;
     esac

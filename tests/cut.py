@@ -5,7 +5,7 @@
 
 Each table is cut with and without `--rewrite`, by its name and by a path with a folder. Nothing but the files of the cut
 is written. The cut is read by `brl survey` without a fault and by `brl search`, and cutting it again gives the same
-bytes. The tables are those of tests/plain_cut.py, whose cuts are written out there, those of the examples, and some here
+bytes. With `--only` its files are the same but for marks before comments, and it is read, too. The tables are those of tests/plain_cut.py, whose cuts are written out there, those of the examples, and some here
 with lines near the limit of 2,048 bytes. Then come folders and files that are there already, or can't be made.
 
 A line is printed for each case that failed. The last line is 'cut: N passed, M failed'.
@@ -27,6 +27,7 @@ from pathlib import Path
 sys.dont_write_bytecode = True
 import plain_cut
 from plain_cut import ABC, NO_VERDICT, Stop
+from plain_table import Table
 
 EXAMPLES = Path(__file__).resolve().parent.parent / "examples"
 
@@ -116,6 +117,25 @@ class Room:
         need(found.status in (0, 1, 3) and found.out and NOTICES.fullmatch(found.err), f"search of the cut: {found}")
         need(surveyed.err == found.err, f"the notices of a survey: {surveyed.err!r}\nand of a search: {found.err!r}")
 
+    def check_only(self, table: str, files: dict[str, bytes], is_rewriting: bool, looked: list[str], status: int) -> None:
+        """A cut that judges lines has the same files, where lines that can act are marked, and is read. A survey names the
+        same lines."""
+        root = next(iter(files))
+        chars = "".join(f"\\z{ord(it):08x}" for it in Table(str(self.folder / root)).chars)
+        if not chars:
+            return
+        options = [f"--only={chars}", *(f"--path={it}" for it in looked)]
+        got = self.run("cut", table, "only", *options, *(["--rewrite"] if is_rewriting else []))
+        named = plain_cut.acting(got.out.decode())
+        need(named and got.status == max(status, named[1] > 0), f"cut --only: {got}")
+        found = {name: self.folder.joinpath("only", name).read_bytes() for name in (it.partition("/")[2] for it in files)}
+        marked = plain_cut.marks({path.partition("/")[2]: it for path, it in files.items()}, found)
+        need(marked is not None and marked <= named[1], f"the files of cut --only: {found}")
+        if is_rewriting:
+            surveyed = self.run("survey", table, *options)
+            need(plain_cut.acting(surveyed.out.decode()) == named and surveyed.status == got.status, f"survey --only: {surveyed}")
+        self.check_cut(f"only/{root.partition('/')[2]}", kept_lines(got))
+
     def check_again(self, root: str, files: dict[str, bytes], is_rewriting: bool) -> None:
         """Cutting a cut again gives the same bytes, and leaves nothing out."""
         first = {path.partition("/")[2]: it for path, it in files.items()}
@@ -138,6 +158,7 @@ def check_table(room: Room, table: str, is_rewriting: bool, looked: list[str]) -
         root = f"cut/{table.rpartition('/')[2]}"
         room.check_cut(root, kept_lines(want))
         room.check_again(root, files, False)
+        room.check_only(table, files, is_rewriting, looked, want.status)
 
 
 def long_lines() -> str:
@@ -182,6 +203,9 @@ MORE = {
     "capitals of a letter without cells": {"t.ctb": "base uppercase Á á\nletter á 9\nbase uppercase A a\nnoback letter a 9\nletter a 2\n"},
     "capitals of capitals": {"t.ctb": "base uppercase B A\nbase uppercase A a\nuplow Cc 14,1\nbase uppercase D C\nletter a 1\n"},
     "a capital that is written by an escape": {"t.ctb": "letter \\x0061 1\nbase uppercase \\x0041 a\nbase uppercase A \\x0061\n"},
+    "contractions by signs of other files": {"t.ctb": "contraction a\ninclude u\nletsign 4\n", "u": "letsign 5\nletter a 1\nletsign x\nnocontractsign 6\ncontraction a\n"},
+    "contractions of capitals": {"t.ctb": "base uppercase A a\nletter a 1\nlowercase A 1\ncontraction A\ncontraction a\ncontraction aA\n"},
+    "contractions of digits and marks": {"t.ctb": "digit 1 2\nlitdigit 1 3\nsign # 4\nspace \\s 0\ncontraction 1#\ncontraction #\\s x\ncontraction =\nmath = 5\n"},
     "a definition that is rewritten and left out": {"t.ctb": "noback space \\s 0\nnoback\tsign  \\s\t9 x\n noback  math\t+  6 y\n"},
 }
 

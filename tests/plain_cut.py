@@ -16,6 +16,7 @@ from collections import Counter
 from collections.abc import Iterable, Iterator
 from dataclasses import dataclass, field
 from functools import cache
+from itertools import starmap
 from pathlib import Path
 
 sys.dont_write_bytecode = True
@@ -103,6 +104,7 @@ class Item:
 
     defined: dict[str, list[str]] = field(default_factory=dict)
     is_literary: bool = False
+    capital: str = ""
     sign: str = ""
     rule: str = ""
     is_used: bool = False
@@ -128,12 +130,13 @@ def item(opcode: str, *words: str) -> Item:
     """What a line does, by itself."""
     if opcode in CLASSES:
         char, dots = operands(opcode, [*words], 2)
-        return Item({character(char): cells(dots, dots)}, opcode == "litdigit", opcode=opcode)
+        defined = {character(char): cells(dots, dots)}
+        return Item(defined, opcode == "litdigit", character(char) if opcode == "uppercase" else "", opcode=opcode)
     if opcode == "uplow":
         chars, dots = operands(opcode, [*words], 2)
         upper, lower = pair(chars)
         first, comma, second = dots.partition(",")
-        return Item({upper: cells(first, dots), lower: cells(second if comma else first, dots)}, opcode=opcode)
+        return Item({upper: cells(first, dots), lower: cells(second if comma else first, dots)}, capital=upper, opcode=opcode)
     if opcode == "display":
         char, dots = operands(opcode, [*words], 2)
         character(char)
@@ -163,6 +166,7 @@ class Good:
 
     def __init__(self) -> None:
         self.chars: dict[str, tuple[bool, list[str]]] = {}
+        self.capitals: set[str] = set()
         self.signs: set[str] = set()
         self.rules = 0
 
@@ -175,6 +179,7 @@ class Good:
             raise Fault(f"B8 TooMany {it.opcode}")
         self.rules = rules
         self.signs |= {it.sign} - {""}
+        self.capitals |= {it.capital} - {""}
         for char, given in it.defined.items():
             if char not in self.chars or (it.is_literary and not self.chars[char][0]):
                 self.chars[char] = (it.is_literary, given)
@@ -237,6 +242,37 @@ def limited(whole: str) -> str:
 def commented(why: str, text: str) -> str:
     """The comment for a line that isn't read."""
     return limited(f"# {why}: {text}")
+
+
+def marks(plain: dict[str, bytes], got: dict[str, bytes]) -> int | None:
+    """How many lines of a cut's files are marked, since they can act; None where these files differ from the plain ones in
+    another way."""
+    if plain.keys() != got.keys():
+        return None
+    counts = [marks_of(plain[name], got[name]) for name in plain]
+    return None if None in counts else sum(counts)
+
+
+def marks_of(plain: bytes, got: bytes) -> int | None:
+    rows, others = (it.decode().split("\n") for it in (plain.removeprefix(MARK), got.removeprefix(MARK)))
+    differ = [(row, other) for row, other in zip(rows, others) if row != other]
+    is_of_cut = plain.startswith(MARK) == got.startswith(MARK) and len(rows) == len(others)
+    return len(differ) if is_of_cut and all(starmap(is_marked, differ)) else None
+
+
+def is_marked(row: str, other: str) -> bool:
+    """Whether a line is a comment, with a mark and the same end."""
+    bare = row.removesuffix("\r")
+    return bare.startswith("# ") and other == limited(f"# can act: {bare}") + row[len(bare) :]
+
+
+def acting(told: str) -> tuple[list[str], int] | None:
+    """The lines of a report with `--only` that name lines which can act, by opcodes, and how many it says there are; None
+    where their sum is another."""
+    named = re.findall(r"^(can act: opcode [^ \n]+: (\d+), the first at .+:\d+)$", told, re.MULTILINE)
+    last = re.search(r"^(?:(\d+) lines? can act on these texts|no line can act on these texts: what --only decides of .+)$", told, re.MULTILINE)
+    count = sum(int(it[1]) for it in named)
+    return ([it[0] for it in named], count) if last and count == int(last[1] or 0) else None
 
 
 def lines_of(text: str) -> Iterator[Line]:
@@ -346,11 +382,15 @@ class Files:
 
 
 def put(line: Line, words: list[str]) -> None:
-    """Puts a line that defines characters before another, which becomes a comment."""
-    before = f"{' '.join(words)} # "
-    if defines(words) and len(before.encode()) <= MOST_BEFORE_BYTES:
-        line.rewritten = limited(before + line.text)
-        line.words = line.rewritten.split(" ")
+    """Puts a line before another, which becomes a comment."""
+    line.rewritten = limited(f"{' '.join(words)} # {line.text}")
+    line.words = line.rewritten.split(" ")
+
+
+def put_definition(line: Line, words: list[str]) -> None:
+    """Puts a line before another, if it defines characters."""
+    if defines(words) and len(" ".join([*words, "# "]).encode()) <= MOST_BEFORE_BYTES:
+        put(line, words)
 
 
 def capital(words: list[str], good: Good) -> list[str]:
@@ -365,17 +405,53 @@ def capital(words: list[str], good: Good) -> list[str]:
     return []
 
 
-def rewrite(lines: list[Line]) -> None:
-    """Puts what a line defines after `noback` before the line; then the `uplow` line before one of a capital."""
+def given_cells(opcode: str, lines: list[Line]) -> list[list[str]]:
+    """The cells that lines of an opcode give an indicator."""
+    found = []
     for line in lines:
-        if line.words[0] == "noback":
-            put(line, line.words[1:4])
+        if line.words[0] == opcode and len(line.words) > 1:
+            with contextlib.suppress(Fault):
+                found.append(cells(line.words[1], opcode))
+    return found
+
+
+def contraction(words: list[str], good: Good, signs: list[str]) -> list[str]:
+    """The `word` line for `contraction X`, where X is characters with cells and none is a capital; else nothing."""
+    if words[0] != "contraction" or len(words) < 2:
+        return []
+    with contextlib.suppress(Fault):
+        chars = spelled(words[1])
+        if set(chars) <= good.chars.keys() - good.capitals:
+            given = sum((good.chars[it][1] for it in chars), signs)
+            return ["word", words[1], "-".join(given)] if len(given) <= MOST_CELLS else []
+    return []
+
+
+def good_of(lines: list[Line]) -> Good:
+    """What lines do together, those with a fault apart."""
     good = Good()
     for line in lines:
         with contextlib.suppress(Fault):
             good.add(item(*line.words))
+    return good
+
+
+def rewrite(lines: list[Line]) -> None:
+    """
+    Puts what a line defines after `noback` before the line; then the `uplow` line before one of a capital; then the `word`
+    line before a contraction.
+    """
     for line in lines:
-        put(line, capital(line.words, good))
+        if line.words[0] == "noback":
+            put_definition(line, line.words[1:4])
+    good = good_of(lines)
+    for line in lines:
+        put_definition(line, capital(line.words, good))
+    good = good_of(lines)
+    signs = sum(given_cells("nocontractsign", lines)[:1] + given_cells("letsign", lines)[-1:], [])
+    for line in lines:
+        if words := contraction(line.words, good, signs):
+            put(line, words)
 
 
 def defines(words: list[str]) -> bool:
@@ -659,6 +735,36 @@ CASES = [
     one("a capital of a letter that another line makes a capital", "lowercase \\x00df 2346\nuplow Ss 234,2\nbase uppercase \\x1e9e S\n",
         "lowercase \\x00df 2346\nuplow Ss 234,2\nuplow \\x1e9eS 234 # base uppercase \\x1e9e S\n",
         "3 of 3 lines are kept, 1 of them rewritten\n", True),
+    one("contractions, with the cells of two indicators",
+        "contraction ab x\nletter a 1\nnoback letter b 21\nletsign 5\nletsign 56-6\nletsign 9\nnocontractsign 4\nnocontractsign 3\n contraction\tb\n",
+        "word ab 4-56-6-1-12 # contraction ab x\nletter a 1\nletter b 21 # noback letter b 21\n# B1 OutsideProfile letsign: letsign 5\n"
+        "# B1 OutsideProfile letsign: letsign 56-6\n# B1 OutsideProfile letsign: letsign 9\nnocontractsign 4\n"
+        "# B9 IndicatorTwice nocontractsign: nocontractsign 3\nword b 4-56-6-12 #  contraction\tb\n",
+        "5 of 9 lines are kept, 3 of them rewritten\nopcode letsign: 3 (not in the profile)\nopcode nocontractsign: 1\n"
+        "file t.ctb: 5 of 9 lines are read\n", True),
+    one("contractions without indicators, of characters of all kinds",
+        "lowercase a 1\nbase uppercase A a\ndigit 1 2\nlitdigit 1 3\npunctuation \\x0027 3-4\ncontraction a1'\ncontraction \\x0061\n",
+        "lowercase a 1\nuplow Aa 1 # base uppercase A a\ndigit 1 2\nlitdigit 1 3\npunctuation \\x0027 3-4\n"
+        "word a1' 1-3-3-4 # contraction a1'\nword \\x0061 1 # contraction \\x0061\n",
+        "7 of 7 lines are kept, 3 of them rewritten\n", True),
+    one("contractions that can't be rewritten",
+        "letter a 1\nletter b 9\nuplow Cc 14\nuppercase D 145\ncontraction\ncontraction ab\ncontraction aC\ncontraction D\ncontraction \\q\n"
+        "noback contraction a\nnofor contraction a\n",
+        "letter a 1\n# B4 BadDots 9: letter b 9\nuplow Cc 14\nuppercase D 145\n# B1 OutsideProfile contraction: contraction\n"
+        "# B1 OutsideProfile contraction: contraction ab\n# B1 OutsideProfile contraction: contraction aC\n# B1 OutsideProfile contraction: contraction D\n"
+        "# B1 OutsideProfile contraction: contraction \\q\n# B1 OutsideProfile contraction: noback contraction a\n"
+        "# B1 OutsideProfile contraction: nofor contraction a\n",
+        "3 of 11 lines are kept, 0 of them rewritten\nopcode contraction: 5 (not in the profile)\nopcode letter: 1\n"
+        "opcode noback contraction: 1 (not in the profile)\nopcode nofor contraction: 1 (not in the profile)\n"
+        "file t.ctb: 3 of 11 lines are read\n", True),
+    one("contractions of sixteen cells, and of more",
+        "letter a 1-1-1-1-1-1-1\nletter b 12\nnocontractsign 6\ncontraction aab\ncontraction aabb\n",
+        f"letter a 1-1-1-1-1-1-1\nletter b 12\nnocontractsign 6\nword aab 6-{'1-' * 14}12 # contraction aab\n"
+        "# B1 OutsideProfile contraction: contraction aabb\n",
+        "4 of 5 lines are kept, 1 of them rewritten\nopcode contraction: 1 (not in the profile)\nfile t.ctb: 4 of 5 lines are read\n", True),
+    one("a contraction past the limit of rules", "letter a 1\n" + "always a 1\n" * 4095 + "contraction a\n contraction  a\n",
+        "letter a 1\n" + "always a 1\n" * 4095 + "word a 1 # contraction a\n# B8 TooMany word:  contraction  a\n",
+        "4097 of 4098 lines are kept, 1 of them rewritten\nopcode word: 1\nfile t.ctb: 4097 of 4098 lines are read\n", True),
     one("rewritten lines of 2,048 bytes and of more", f"noback letter a 1 {'x' * 2017}\nnoback letter b 1 {'x' * 2018}\n",
         f"letter a 1 # noback letter a 1 {'x' * 2017}\nletter b 1 # noback letter b 1 {'x' * 2014}...\n",
         "2 of 2 lines are kept, 2 of them rewritten\n", True),

@@ -1,6 +1,10 @@
+pub mod AlikeTables
 pub mod Bytes
 pub mod Enumerated
+pub mod FewerLines
+pub mod FoldsOfLines
 pub mod ItemSteps
 pub mod LookedUp
 pub mod Mapped
+pub mod NeedsOfLines
 pub mod Reaching

@@ -104,10 +104,11 @@ abbrev pub is_same_small : ℕ → List (List ℕ) → List ℕ → KeptRule →
 is_same_small place words small rule =
     bytes_eq rule.opcode (word_at words 0) && bytes_eq rule.chars small && (nat_lt rule.place place || bytes_eq rule.dots (word_at words 2))
 
--- a rule of one character
+-- a rule of one character; a contraction is read as a rule for a place
 abbrev pub one_acts : Known → ℕ → List ℕ → ℕ → Bool
 one_acts known place word c =
-    if is_placed word && list_any (is_always_before place c) known.read.rules then known.reach.alphabet c else known.reach.over c
+    if (is_placed word || bytes_eq word (codes "contraction")) && list_any (is_always_before place c) known.read.rules then known.reach.alphabet c
+    else known.reach.over c
 
 -- a rule with capitals is one that no other rule does
 abbrev pub is_capital_rule : Known → ℕ → LineParts → List ℕ → Bool
@@ -126,10 +127,17 @@ more_act known place parts chars =
     if list_any known.classes.capitals chars then list_all known.reach.near chars && is_capital_rule known place parts chars
     else is_run_rule (word_at parts.words 0) && known.read.keeps_word && known.facts.has_capital && list_all known.reach.stood chars
 
+-- a contraction of more characters: brl uses its `word` rule for capitals of its letters too
+abbrev pub contraction_acts : Known → List ℕ → Bool
+contraction_acts known chars = list_any known.reach.over chars && list_all known.reach.stood chars
+
+abbrev pub some_act : Known → ℕ → LineParts → List ℕ → Bool
+some_act known place parts chars = if has_opcode (codes "contraction") parts then contraction_acts known chars else more_act known place parts chars
+
 -- a rule, by its characters
 abbrev pub chars_act : Known → ℕ → LineParts → List ℕ → Bool
 chars_act known place parts (c ∷ []) = one_acts known place (word_at parts.words 0) c
-chars_act known place parts chars = more_act known place parts chars
+chars_act known place parts chars = some_act known place parts chars
 
 -- a kept rule: for numbers digits are needed, and each character
 abbrev pub kept_rule_acts : Known → ℕ → LineParts → Bool

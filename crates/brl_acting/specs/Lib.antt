@@ -7,3 +7,4 @@ pub mod Readings
 pub mod Tests
 pub mod Acting
 pub mod WholeTable
+pub mod Idle

@@ -78,12 +78,28 @@ abbrev pub cells_at : LineParts → Option ℕ → List ℕ
 cells_at parts None = []
 cells_at parts (Some place) = cells_in (word_at parts.words place)
 
+-- the cells of the indicators that a kept contraction has before those of its characters, by each
+-- line that gives them some
+abbrev pub sign_cells_in : LineParts → List ℕ
+sign_cells_in parts = if has_opcode (codes "nocontractsign") parts || has_opcode (codes "letsign") parts then cells_in (word_at parts.words 1) else []
+
+abbrev pub sign_cells : List LineParts → List ℕ
+sign_cells lines = flat_map sign_cells_in lines
+
+abbrev pub signs_if_near : (ℕ → Bool) → List ℕ → List ℕ → List ℕ
+signs_if_near near signs chars = if list_all near chars then signs else []
+
+-- the cells that a line with these characters gives texts over the alphabet; of a contraction those
+-- before its characters' own
+abbrev pub given_cells : (ℕ → Bool) → Facts → List ℕ → LineParts → List ℕ → List ℕ
+given_cells near facts signs parts chars =
+    if has_opcode (codes "contraction") parts then signs_if_near near signs chars
+    else cells_at parts (dots_place near facts chars (form_of (word_at parts.words 0)))
+
 -- the cells that a kept line gives texts over the alphabet
-abbrev pub cells_of : (ℕ → Bool) → Facts → LineParts → List ℕ
-cells_of near facts parts =
-    if parts.kept && not parts.nofor
-    then cells_at parts (dots_place near facts (unwrap_or (chars_at parts.words 1) []) (form_of (word_at parts.words 0)))
-    else []
+abbrev pub cells_of : (ℕ → Bool) → Facts → List ℕ → LineParts → List ℕ
+cells_of near facts signs parts =
+    if parts.kept && not parts.nofor then given_cells near facts signs parts (unwrap_or (chars_at parts.words 1) []) else []
 
 -- ---- All that is known
 
@@ -110,7 +126,7 @@ pub record Readings : Type 0 where
 abbrev pub readings_by : List LineParts → List (ℕ × ℕ) → (ℕ → Bool) → Facts → Readings
 readings_by lines bases near facts = record {
   small = small_by bases;
-  cells = is_in (flat_map (cells_of near facts) lines);
+  cells = is_in (flat_map (cells_of near facts (sign_cells lines)) lines);
   rules = rules_of lines;
   has_numsign = list_any (has_opcode (codes "numsign")) lines;
   keeps_word = keeps (codes "begcapsword") lines;

@@ -14,7 +14,7 @@ use Rattle.brl_lines.specs.declared.way.IncludeReason.{IncludeReason}
 use Rattle.brl_lines.specs.declared.way.IncludeReason.TheVariants.{Missing}
 use Rattle.brl_table.specs.Survey.{FaultyLineView}
 use Rattle.brl_acting.specs.Acting.{acting_lines}
-use Rattle.brl_acting.specs.Words.{TableLineView}
+use Rattle.brl_acting.specs.Words.{TableLineView, opcode_of}
 use Rattle.brl_acting.specs.declared.whole_table.ActingLine.{ActingLine}
 
 -- ---- Places
@@ -80,25 +80,30 @@ missing_lines left_out = map include_line (filter is_missing left_out)
 
 -- ---- Lines that can act
 
--- a line that can act: its first word, and its place
+-- a line that can act: its opcode, its place, and whether it is kept
 pub record ActingView : Type 0 where
   pub opcode : List ℕ
   pub place : LocationView
+  pub kept : Bool
 
-abbrev pub acting_line : LineView → ActingView
-acting_line line = record { opcode = line.opcode.text; place = location_of line }
+abbrev pub acting_line : TableLineView → ActingView
+acting_line at = record { opcode = opcode_of at.line; place = location_of at.line; kept = at.kept }
 
 -- the line at a place
-abbrev pub line_at : List LineView → ℕ → List ActingView
+abbrev pub line_at : List TableLineView → ℕ → List ActingView
 line_at lines place = option_map_or (λ line. acting_line line ∷ []) (slice_get lines place) []
 
-abbrev pub taken_lines : List LineView → List ℕ → List ActingView
+abbrev pub taken_lines : List TableLineView → List ℕ → List ActingView
 taken_lines lines places = flat_map (line_at lines) places
+
+-- which of these lines can act on texts over an alphabet
+abbrev pub acting_among : List TableLineView → List ℕ → List ActingView
+acting_among lines alphabet = taken_lines lines (acting_lines lines alphabet)
 
 -- which of these lines can act on texts over an alphabet, where lines at some places are left out,
 -- and lines at others are one with a neighbour
 abbrev pub acting_in : List (List ℕ × ℕ) → List (List ℕ × ℕ) → List LineView → List ℕ → List ActingView
-acting_in left_out continued lines alphabet = taken_lines lines (acting_lines (map (table_line left_out continued) lines) alphabet)
+acting_in left_out continued lines alphabet = acting_among (map (table_line left_out continued) lines) alphabet
 
 -- the lines of a whole table that can act on texts over an alphabet, where its cut leaves these
 -- out: of all its lines, and of the include lines whose file isn't there
@@ -123,4 +128,4 @@ abbrev pub file_view : GatheredFile → List ℕ × List ℕ
 file_view file = (string_bytes file.path, file.bytes.items)
 
 abbrev pub acting_view : ActingLine → ActingView
-acting_view line = record { opcode = string_bytes line.opcode; place = location_view line.place }
+acting_view line = record { opcode = string_bytes line.opcode; place = location_view line.place; kept = line.kept }

@@ -35,6 +35,10 @@ after_words zero (word ∷ words) = if prefix_length word == 0 then word ∷ wor
 abbrev pub after_prefixes : List (List ℕ) → List (List ℕ)
 after_prefixes words = after_words 0 words
 
+-- the opcode of a line: the word after all prefixes; where none follows them, the first word
+abbrev pub opcode_of : LineView → List ℕ
+opcode_of line = unwrap_or (slice_get (after_prefixes (words_of line)) 0) line.opcode.text
+
 -- the words of all prefixes
 abbrev pub prefix_words : List (List ℕ) → List (List ℕ)
 prefix_words words = take (length words - length (after_prefixes words)) words

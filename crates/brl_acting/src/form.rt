@@ -213,8 +213,8 @@ pub(crate) fn form_of(word: &str) -> Option<Form>
     ensures { result ≡ form_by word.now }
 {
     line_form(word)
-        .or(indicator_form(word))
-        .or(other_form(word))
+        .or_else(|| indicator_form(word))
+        .or_else(|| other_form(word))
 }
 
 /// The form for definitions, rules, and lines that never act.

@@ -2,7 +2,7 @@
 ghost use Rattle.std.specs.Prelude.{◌≡◌, ◌∷◌, [], IfOk, map, true};
 ghost use Rattle.std.specs.List.{list_any};
 ghost use Rattle.std.specs.Option.{option_map_or};
-ghost use Rattle.brl_acting.specs.Acting.{chars_act as chars_act_by, differs_by as differs_by_form, is_capital_rule as is_capital_rule_by, is_always_before as is_always_before_by, is_half_digit as is_half_digit_by, is_number_rule as is_number_rule_by, is_run_rule as is_run_rule_by, is_same_small as is_same_small_by, kept_acts as kept_acts_by, kept_rule_acts as kept_rule_acts_by, more_act as more_act_by, one_acts as one_acts_by};
+ghost use Rattle.brl_acting.specs.Acting.{chars_act as chars_act_by, contraction_acts as contraction_acts_by, differs_by as differs_by_form, is_capital_rule as is_capital_rule_by, is_always_before as is_always_before_by, is_half_digit as is_half_digit_by, is_number_rule as is_number_rule_by, is_run_rule as is_run_rule_by, is_same_small as is_same_small_by, kept_acts as kept_acts_by, kept_rule_acts as kept_rule_acts_by, more_act as more_act_by, one_acts as one_acts_by, some_act as some_act_by};
 ghost use Rattle.brl_acting.specs.Readings.{known_view, rule_view, small_by};
 ghost use Rattle.brl_acting.specs.Words.{chars_at as chars_by, parts_view};
 
@@ -23,11 +23,13 @@ fn is_always_before(rule: &Rule<'_>, character: char, place: usize) -> bool
     rule.opcode == "always" && rule.chars.as_slice() == [character].as_slice() && rule.place < place
 }
 
-/// Whether a rule of one character can act in another way.
+/// Whether a rule of one character can act in another way. A contraction is read as a rule for a
+/// place.
 fn one_acts(known: &Known<'_>, place: usize, opcode: &str, character: char) -> bool
     ensures { result ≡ one_acts_by (known_view known.now) place opcode.now character }
 {
-    if is_placed(opcode) && has_always(known.read.rules.as_slice(), character, place) {
+    let placed = is_placed(opcode) || opcode == "contraction";
+    if placed && has_always(known.read.rules.as_slice(), character, place) {
         known.reach.alphabet.has(character)
     } else {
         known.reach.over.has(character)
@@ -134,6 +136,29 @@ fn more_act(
     )
 }
 
+/// Whether a contraction of more characters can act in another way.
+fn contraction_acts(known: &Known<'_>, chars: &[char]) -> bool
+    ensures { result ≡ contraction_acts_by (known_view known.now) chars.now }
+{
+    known.reach.over.has_any(chars) && known.reach.stood.has_all(chars)
+}
+
+/// Whether a rule or a contraction of more characters can act in another way.
+fn some_act(
+    alloc: Global,
+    known: &Known<'_>,
+    place: usize,
+    parts: &Parts<'_>,
+    chars: &[char],
+) -> Result<bool, AllocError>
+    ensures { IfOk result (λ acts. acts ≡ some_act_by (known_view known.now) place (parts_view parts.now) chars.now) }
+{
+    if has_opcode(parts, "contraction") {
+        return Ok(contraction_acts(known, chars));
+    }
+    more_act(alloc, known, place, parts, chars)
+}
+
 /// Whether a rule of these characters can act in another way.
 fn chars_act(
     alloc: Global,
@@ -149,7 +174,7 @@ fn chars_act(
             let opcode = word_at(parts.words.as_slice(), 0);
             Ok(one_acts(known, place, opcode, *character))
         }
-        _ => more_act(alloc, known, place, parts, chars),
+        _ => some_act(alloc, known, place, parts, chars),
     }
 }
 

@@ -6,6 +6,8 @@
 //! Where there is none, liblouis writes the same cells for such texts by the whole table as by its
 //! cut. That is a claim of liblouis, found by tests and not proved; what is proved is that `acting`
 //! gives just the lines of the definition. `acting_of_table` gives them of a table that was cut.
+//! Of the tables by which brl itself translates the same is proved: `laws` has what a table without
+//! rules and definitions that can't act makes of texts.
 //!
 //! `parts` takes prefixes off lines, `form` has the form of an opcode's needs, and `operand` the
 //! characters of operands. `known` has what is known of a table and an alphabet: `reach` which
@@ -28,6 +30,7 @@ mod items;
 mod judging;
 mod kept;
 mod known;
+mod laws;
 mod left_out;
 mod name_set;
 mod operand;
@@ -40,5 +43,6 @@ mod tests_met;
 mod whole_table;
 
 pub use judging::acting;
+pub use laws::{idle_laws, idle_needs_law};
 pub use table_line::TableLine;
 pub use whole_table::{ActingLine, acting_of_table};

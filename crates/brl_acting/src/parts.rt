@@ -1,7 +1,7 @@
 //! A line as its needs see it: its prefixes, its opcode and its operands.
 ghost use Rattle.std.specs.Prelude.{◌≡◌, IfOk, map};
 ghost use Rattle.brl_lines.specs.Views.{line_view};
-ghost use Rattle.brl_acting.specs.Words.{after_prefixes as words_after_prefixes, classes_of_prefixes, names_class as is_class, parts_of as parts_by, parts_view, table_line_view, prefix_length as length_of_prefix, prefix_words as words_of_prefixes, words_of as words_of_line};
+ghost use Rattle.brl_acting.specs.Words.{after_prefixes as words_after_prefixes, classes_of_prefixes, names_class as is_class, opcode_of as opcode_of_line, parts_of as parts_by, parts_view, table_line_view, prefix_length as length_of_prefix, prefix_words as words_of_prefixes, words_of as words_of_line};
 
 use crate::form::is_among;
 use crate::table_line::TableLine;
@@ -57,6 +57,19 @@ fn after_prefixes<'w, 'a>(words: &'w [&'a str]) -> &'w [&'a str]
         rest = rest.get(length..).unwrap_or_default();
     }
     rest
+}
+
+/// The opcode of a line: the word after all prefixes. Where none follows them, the first word.
+pub(crate) fn opcode_of<'a>(alloc: Global, line: &Line<'a>) -> Result<&'a str, AllocError>
+    ensures { IfOk result (λ opcode. opcode.now ≡ opcode_of_line (line_view line.now)) }
+{
+    let words = words_of(alloc, line)?;
+    Ok(
+        after_prefixes(words.as_slice())
+            .first()
+            .copied()
+            .unwrap_or(line.opcode.text),
+    )
 }
 
 /// The words of all prefixes, where `after` has the words that follow them.

@@ -4,7 +4,7 @@ ghost use Rattle.std.specs.List.{list_any};
 ghost use Rattle.brl_cells.specs.Dots.{reading};
 ghost use Rattle.brl_table.specs.Items.{parts_of as parts_around};
 ghost use Rattle.brl_acting.specs.Capitals.{has_opcode as has_opcode_by};
-ghost use Rattle.brl_acting.specs.Readings.{cells_if, cells_in as cells_by_word, cells_of as cells_by, dots_place as dots_place_by, keeps as keeps_by, keeps_runs as keeps_runs_by, place_if as place_by, readings_by, readings_view, small_by};
+ghost use Rattle.brl_acting.specs.Readings.{cells_at, cells_if, cells_in as cells_by_word, cells_of as cells_by, dots_place as dots_place_by, given_cells, keeps as keeps_by, keeps_runs as keeps_runs_by, place_if as place_by, readings_by, readings_view, sign_cells as sign_cells_by, sign_cells_in, signs_if_near, small_by};
 ghost use Rattle.brl_acting.specs.Sets.{is_in, set_view};
 ghost use Rattle.brl_acting.specs.Words.{parts_view};
 
@@ -33,6 +33,15 @@ pub(crate) struct Readings<'a> {
     pub keeps_word: bool,
     /// Whether the other two indicators of capitals are read.
     pub keeps_runs: bool,
+}
+
+/// By what lines give texts over the alphabet cells.
+#[derive(Clone, Copy)]
+struct Given<'s> {
+    near: &'s CharSet,
+    facts: Facts,
+    /// The cells of the indicators that a contraction has.
+    signs: &'s [char],
 }
 
 /// The small letter of a capital, by the first line that gives one; another character itself.
@@ -108,41 +117,119 @@ fn dots_place(near: &CharSet, facts: Facts, chars: &[char], form: Option<Form>) 
     }
 }
 
-/// Adds the cells that a line gives texts over the alphabet.
-fn push_cells_of(
-    alloc: Global,
+/// Adds the cells of an indicator that a contraction has, if a line gives it some.
+fn push_sign(alloc: Global, signs: &mut Vec<char>, parts: &Parts<'_>) -> Result<(), AllocError>
+    ensures { OnOk result (signs.new.items ≡ signs.old.items ++ sign_cells_in (parts_view parts.now)) }
+{
+    if has_opcode(parts, "nocontractsign") || has_opcode(parts, "letsign") {
+        push_cells(alloc, signs, word_at(parts.words.as_slice(), 1))?;
+    }
+    Ok(())
+}
+
+/// The cells of the indicators that a contraction has, as characters with their numbers.
+fn sign_cells(alloc: Global, lines: &[Parts<'_>]) -> Result<Vec<char>, AllocError>
+    ensures { IfOk result (λ signs. signs.items ≡ sign_cells_by (map parts_view lines.now)) }
+{
+    let mut signs = Vec::new(alloc);
+    for parts in lines {
+        push_sign(alloc, &mut signs, parts)?;
+    }
+    Ok(signs)
+}
+
+/// Adds cells of indicators, where each character of a contraction is near the alphabet.
+fn push_if_near(
     cells: &mut Vec<char>,
     near: &CharSet,
-    facts: Facts,
-    parts: &Parts<'_>,
+    signs: &[char],
+    chars: &[char],
 ) -> Result<(), AllocError>
-    ensures { OnOk result (cells.new.items ≡ cells.old.items ++ cells_by (set_view near.now) facts (parts_view parts.now)) }
+    ensures { OnOk result (cells.new.items ≡ cells.old.items ++ signs_if_near (set_view near.now) signs.now chars.now) }
 {
-    if !parts.kept || parts.nofor {
-        return Ok(());
+    if near.has_all(chars) {
+        cells.extend_from_slice(signs)?;
     }
-    let words = parts.words.as_slice();
-    let chars = chars_or(alloc, words, 1, &[])?;
-    match dots_place(near, facts, chars.as_slice(), form_of(word_at(words, 0))) {
-        Some(place) => push_cells(alloc, cells, word_at(words, place)),
+    Ok(())
+}
+
+/// Adds the cells that the word at a place of a line spells, if there is one.
+fn push_cells_at(
+    alloc: Global,
+    cells: &mut Vec<char>,
+    parts: &Parts<'_>,
+    place: Option<usize>,
+) -> Result<(), AllocError>
+    ensures { OnOk result (cells.new.items ≡ cells.old.items ++ cells_at (parts_view parts.now) place) }
+{
+    match place {
+        Some(place) => push_cells(alloc, cells, word_at(parts.words.as_slice(), place)),
         None => Ok(()),
     }
 }
 
+/// Adds the cells that a line with these characters gives texts over the alphabet.
+fn push_given(
+    alloc: Global,
+    cells: &mut Vec<char>,
+    given: &Given<'_>,
+    parts: &Parts<'_>,
+    chars: &[char],
+) -> Result<(), AllocError>
+    ensures { OnOk result (cells.new.items ≡ cells.old.items ++ given_cells (set_view given.now.near.now) given.now.facts given.now.signs.now (parts_view parts.now) chars.now) }
+{
+    if has_opcode(parts, "contraction") {
+        return push_if_near(cells, given.near, given.signs, chars);
+    }
+    let form = form_of(word_at(parts.words.as_slice(), 0));
+    let place = dots_place(given.near, given.facts, chars, form);
+    push_cells_at(alloc, cells, parts, place)
+}
+
+/// Adds the cells that a kept line gives texts over the alphabet.
+fn push_cells_of(
+    alloc: Global,
+    cells: &mut Vec<char>,
+    given: &Given<'_>,
+    parts: &Parts<'_>,
+) -> Result<(), AllocError>
+    ensures { OnOk result (cells.new.items ≡ cells.old.items ++ cells_by (set_view given.now.near.now) given.now.facts given.now.signs.now (parts_view parts.now)) }
+{
+    if !parts.kept || parts.nofor {
+        return Ok(());
+    }
+    let chars = chars_or(alloc, parts.words.as_slice(), 1, &[])?;
+    push_given(alloc, cells, given, parts, chars.as_slice())
+}
+
 /// The cells of texts over the alphabet, as characters with their numbers.
-fn cells_of(
+fn cells_of(alloc: Global, given: &Given<'_>, lines: &[Parts<'_>]) -> Result<Vec<char>, AllocError>
+    ensures { IfOk result (λ cells. cells.items ≡ flat_map (cells_by (set_view given.now.near.now) given.now.facts given.now.signs.now) (map parts_view lines.now)) }
+{
+    let mut cells = Vec::new(alloc);
+    for parts in lines {
+        push_cells_of(alloc, &mut cells, given, parts)?;
+    }
+    Ok(cells)
+}
+
+/// The cells of texts over the alphabet, as a set.
+fn cell_set(
     alloc: Global,
     near: &CharSet,
     facts: Facts,
     lines: &[Parts<'_>],
-) -> Result<Vec<char>, AllocError>
-    ensures { IfOk result (λ cells. cells.items ≡ flat_map (cells_by (set_view near.now) facts) (map parts_view lines.now)) }
+) -> Result<CharSet, AllocError>
+    ensures { IfOk result (λ cells. set_view cells ≡ is_in (flat_map (cells_by (set_view near.now) facts (sign_cells_by (map parts_view lines.now))) (map parts_view lines.now))) }
 {
-    let mut cells = Vec::new(alloc);
-    for parts in lines {
-        push_cells_of(alloc, &mut cells, near, facts, parts)?;
-    }
-    Ok(cells)
+    let signs = sign_cells(alloc, lines)?;
+    let given = Given {
+        near,
+        facts,
+        signs: signs.as_slice(),
+    };
+    let cells = cells_of(alloc, &given, lines)?;
+    CharSet::of(alloc, cells.as_slice())
 }
 
 /// Whether a line has this opcode.
@@ -178,8 +265,7 @@ pub(crate) fn readings_of<'a>(
 ) -> Result<Readings<'a>, AllocError>
     ensures { IfOk result (λ readings. readings_view readings ≡ readings_by (map parts_view lines.now) bases.now (set_view near.now) facts) }
 {
-    let given = cells_of(alloc, near, facts, lines)?;
-    let cells = CharSet::of(alloc, given.as_slice())?;
+    let cells = cell_set(alloc, near, facts, lines)?;
     let rules = rules_of(alloc, lines)?;
     let own = Vec::from_slice(alloc, bases)?;
     Ok(Readings {

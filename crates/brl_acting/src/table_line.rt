@@ -4,7 +4,7 @@ use brl_lines::Line;
 /// A line of a table, and what a cut made of it.
 #[derive(Clone, Copy, Debug)]
 pub struct TableLine<'l, 'a> {
-    /// The line. One that is kept has the words of the cut, which may have rewritten it.
+    /// The line as it was before the cut, which may have rewritten it.
     pub line: &'l Line<'a>,
     /// Whether the cut keeps it.
     pub kept: bool,

@@ -4,10 +4,11 @@ ghost use Rattle.brl_lines.specs.GatherFaults.{gathered_view};
 ghost use Rattle.brl_lines.specs.Gathered.{left_view};
 ghost use Rattle.brl_lines.specs.Views.{line_view};
 ghost use Rattle.brl_table.specs.Survey.{faulty_line_view};
-ghost use Rattle.brl_acting.specs.WholeTable.{Holds, acting_in, acting_line as acting_by, acting_of_table as acting_of_table_by, acting_view, continued_at, continued_places as continued_by, file_view, goes_on as goes_on_by, has_place, include_line as include_line_by, is_key, is_missing as is_missing_by, is_place, line_at, line_place, missing_lines as missing_by, left_out_place, place_view, rows_of, table_line as table_line_by, taken_lines};
+ghost use Rattle.brl_acting.specs.WholeTable.{Holds, acting_among as acting_among_by, acting_in, acting_line as acting_by, acting_of_table as acting_of_table_by, acting_view, continued_at, continued_places as continued_by, file_view, goes_on as goes_on_by, has_place, include_line as include_line_by, is_key, is_missing as is_missing_by, is_place, line_at, line_place, missing_lines as missing_by, left_out_place, place_view, rows_of, table_line as table_line_by, taken_lines};
 ghost use Rattle.brl_acting.specs.Words.{table_line_view};
 
 use crate::judging::acting;
+use crate::parts::opcode_of;
 use crate::table_line::TableLine;
 use brl_lines::{
     Gathered, GatheredFile, IncludeReason, LeftInclude, Line, Loaded, Location, Token,
@@ -16,11 +17,13 @@ use brl_table::FaultyLine;
 use indexmap::IndexSet;
 use std::alloc::{AllocError, Global};
 
-/// A line that can act: its first word, and its place.
+/// A line that can act: its opcode, which comes after all prefixes; its place; and whether the cut
+/// keeps it.
 #[derive(Drop)]
 pub struct ActingLine {
     pub opcode: String,
     pub place: Location,
+    pub kept: bool,
 }
 
 /// The place of a line: the path of its file, and its number from 1.
@@ -199,10 +202,10 @@ fn push_missing<'a>(
 /// The lines at places that can act.
 fn lines_at(
     alloc: Global,
-    lines: &[Line<'_>],
+    lines: &[TableLine<'_, '_>],
     places: &[usize],
 ) -> Result<Vec<ActingLine>, AllocError>
-    ensures { IfOk result (λ found. map acting_view found.items ≡ taken_lines (map line_view lines.now) places.now) }
+    ensures { IfOk result (λ found. map acting_view found.items ≡ taken_lines (map table_line_view lines.now) places.now) }
 {
     let mut found = Vec::with_capacity(alloc, places.len())?;
     for place in places {
@@ -215,10 +218,10 @@ fn lines_at(
 fn push_line(
     alloc: Global,
     found: &mut Vec<ActingLine>,
-    lines: &[Line<'_>],
+    lines: &[TableLine<'_, '_>],
     place: usize,
 ) -> Result<(), AllocError>
-    ensures { OnOk result (map acting_view found.new.items ≡ map acting_view found.old.items ++ line_at (map line_view lines.now) place) }
+    ensures { OnOk result (map acting_view found.new.items ≡ map acting_view found.old.items ++ line_at (map table_line_view lines.now) place) }
 {
     if let Some(line) = lines.get(place) {
         found.push(acting_line(alloc, line)?)?;
@@ -227,16 +230,30 @@ fn push_line(
 }
 
 /// A line that can act.
-fn acting_line(alloc: Global, line: &Line<'_>) -> Result<ActingLine, AllocError>
-    ensures { IfOk result (λ acting. acting_view acting ≡ acting_by (line_view line.now)) }
+fn acting_line(alloc: Global, at: &TableLine<'_, '_>) -> Result<ActingLine, AllocError>
+    ensures { IfOk result (λ acting. acting_view acting ≡ acting_by (table_line_view at.now)) }
 {
+    let line = at.line;
     Ok(ActingLine {
-        opcode: String::from_str(alloc, line.opcode.text)?,
+        opcode: String::from_str(alloc, opcode_of(alloc, line)?)?,
         place: Location {
             file: String::from_str(alloc, line.file)?,
             line: line.line,
         },
+        kept: at.kept,
     })
+}
+
+/// Which of these lines can act on texts over an alphabet.
+fn acting_of_lines(
+    alloc: Global,
+    lines: &[TableLine<'_, '_>],
+    alphabet: &[char],
+) -> Result<Vec<ActingLine>, AllocError>
+    ensures { IfOk result (λ found. map acting_view found.items ≡ acting_among_by (map table_line_view lines.now) alphabet.now) }
+{
+    let places = acting(alloc, lines, alphabet)?;
+    lines_at(alloc, lines, places.as_slice())
 }
 
 /// Which of these lines can act on texts over an alphabet, where some of them are left out.
@@ -253,8 +270,7 @@ fn acting_among(
     let left_out = left_out_places(alloc, left_out)?;
     let continued = continued_places(alloc, files)?;
     let table_lines = table_lines(alloc, lines, left_out.as_slice(), continued.as_slice())?;
-    let places = acting(alloc, table_lines.as_slice(), alphabet)?;
-    lines_at(alloc, lines, places.as_slice())
+    acting_of_lines(alloc, table_lines.as_slice(), alphabet)
 }
 
 /// The lines of a whole table that can act on texts over an alphabet of characters that its cut

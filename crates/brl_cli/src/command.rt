@@ -73,10 +73,12 @@ pub enum Question<'a> {
         pairs: PairFiles<'a>,
     },
     /// Which lines of tables are outside the profile or faulty. A brief answer has the counts of
-    /// such lines alone.
+    /// such lines alone. Where characters are given, which lines of the tables can act on texts of
+    /// these.
     Survey {
         tables: Vec<&'a str>,
         brief: bool,
+        only: Option<&'a str>,
     },
     /// Which rules of the table have these numbers; where none are given, which it has.
     Rules {

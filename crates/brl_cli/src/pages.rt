@@ -335,6 +335,7 @@ pub static LINE_PAGES: [Page; 3] = [
         "survey": "Lists the lines of tables that are outside the profile or faulty",
         arguments: [
             Argument("brief", Switch, "Leave the lists of faults and dictionaries out"),
+            Argument("only", Text("CHARS"), "Say which lines can act on texts of these characters"),
             Argument("TABLE", Operands, "The files of tables"),
         ],
         help: "Reads each TABLE with the files that it includes, and each line by itself: a
@@ -352,7 +353,13 @@ for once no line has another fault. Of an opcode that isn't read the counts say
 whether liblouis has it: where it hasn't, or where no line defines a character,
 the exit status is 1. Standard error gets a notice for each line that defines a
 character again, in tables whose lines are all read. A survey gives no verdict on
-ambiguity.",
+ambiguity.
+
+With --only the report of a TABLE is that of brl cut TABLE DIR --rewrite with the
+same --only, and nothing is written: how many lines the cut keeps, and which lines
+of the whole table can act on texts of these characters. Where one can, the exit
+status is 1; a TABLE whose cut doesn't define one of CHARS is named on standard
+error.",
         example: "Example, a table in which one of four lines is read:
   printf '%s\\n' 'letter a 1' 'pass2 @1 @2' 'letter b 9' 'pass2 @2 @3' > far.ctb
   brl survey far.ctb
@@ -371,7 +378,7 @@ It prints:
     page! {
         "cut": "Writes the lines of a table that are read as a table of its own",
         arguments: [
-            Argument("rewrite", Switch, "Also read definitions after noback, and base uppercase"),
+            Argument("rewrite", Switch, "Also read three more forms of lines, as they are rewritten"),
             Argument("only", Text("CHARS"), "Say which lines can act on texts of these characters"),
             TABLE,
             Argument("DIR", Operand, "The folder that gets the files"),
@@ -386,9 +393,10 @@ line that includes it, so DIR has the whole table, and is read without --path.
 Where the opcode of a line that is left out isn't one of liblouis', as of one that
 is misspelt, the exit status is 1. The files are written all the same.
 
-With --rewrite two more forms of lines are read, and written as they are read: a
-line that defines a character after noback, and base uppercase U L, which is
-uplow UL with the dots of L.
+With --rewrite three more forms of lines are read, and written as they are read: a
+line that defines a character after noback; base uppercase U L, which is uplow UL
+with the dots of L; and contraction X of small letters, which is word X with the
+dots of nocontractsign, of letsign and of these letters.
 
 With --only it is also said which lines of the whole table can act on texts of
 these characters: lines that are left out, and lines that are read in another

@@ -139,8 +139,11 @@ fn survey<'a>(alloc: Global, found: &ArgMatches<'a>) -> Result<Option<Question<'
         return Ok(None);
     };
     let tables = Vec::from_slice(alloc, tables)?;
-    let brief = found.get_flag("brief");
-    Ok(Some(Question::Survey { tables, brief }))
+    Ok(Some(Question::Survey {
+        tables,
+        brief: found.get_flag("brief"),
+        only: found.get_str("only"),
+    }))
 }
 
 fn cut<'a>(found: &ArgMatches<'a>) -> Option<Question<'a>> {

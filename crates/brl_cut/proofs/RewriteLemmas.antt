@@ -8,7 +8,8 @@ use Rattle.brl_table.specs.Survey.{FindingsView, faulty_line_view, findings_view
 use Rattle.brl_table.specs.declared.faulty.Findings.{Findings}
 use Rattle.brl_cut.specs.Edits.{EditView}
 use Rattle.brl_rules.specs.declared.rule.Info.{Info}
-use Rattle.brl_cut.specs.Rewriting.{edit_to_pair, edit_to_words, is_definition}
+use Rattle.brl_cut.specs.Putting.{is_definition}
+use Rattle.brl_cut.specs.Rewriting.{edit_to_pair, edit_to_words}
 
 -- by what a survey of one line found it is known whether it is a definition
 pub definition-found : (found : Findings) (line : LineView) → findings_view found ≡ survey_of (line ∷ []) → (found.has_characters && (length found.faulty.items == 0)) ≡ is_definition line

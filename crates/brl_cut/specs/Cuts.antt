@@ -1,12 +1,11 @@
 -- The readable part of a table as files of their own. The project's own choice.
 use Rattle.std.specs.Prelude.{ℕ, Bool, ◌≡◌, List, [], ◌++◌, codes, map, string_bytes, zip, Ok}
 use Rattle.brl_lines.specs.Answer.{FileAnswers, answer_of, same_answer}
-use Rattle.brl_lines.specs.GatherFaults.{IsGatherFault, gathered_view}
-use Rattle.brl_lines.specs.Gathering.{GatheredView, LeftView, gathered_from}
+use Rattle.brl_lines.specs.GatherFaults.{IsGatherFault, IsGathered, gathered_view}
+use Rattle.brl_lines.specs.Gathering.{GatheredView, LeftView}
 use Rattle.brl_lines.specs.Includes.{last_part, path_in}
-use Rattle.brl_lines.specs.Lines.{Answers, answer_at}
-use Rattle.brl_lines.specs.Outcome.{AreGiven}
 use Rattle.brl_lines.specs.Tokens.{LineView}
+use Rattle.brl_lines.specs.declared.gathering.Gathered.{Gathered}
 use Rattle.brl_lines.specs.declared.way.IncludeReason.{IncludeReason}
 use Rattle.brl_lines.specs.declared.way.IncludeReason.TheVariants.{Dictionary, Missing, Repeated}
 use Rattle.brl_table.specs.Files.{IsFaultAt, IsTableOf}
@@ -98,8 +97,8 @@ IsUnreadAs files root why = IsFaultAt (only [] files) root why
 
 -- The cut of files that were gathered, where they were looked for in these folders too, for a
 -- folder: lines are rewritten where this is asked for, the files are settled, and what is finished
--- is written into the folder, where it defines a table. `found` are the faulty lines, and `lines`
--- those that are kept; `cut.rewritten` is how many of these are rewritten.
+-- is written into the folder. `found` are the faulty lines, and `lines` those that are kept;
+-- `cut.rewritten` is how many of these are rewritten.
 pub record IsCutOf (rewrite : Bool) (folders : List (List ℕ)) (gathered : GatheredView) (root dir : List ℕ) (cut : Cut) : Type 0 where
   pub settled : Texts
   pub found : List FaultyLineView
@@ -110,27 +109,27 @@ pub record IsCutOf (rewrite : Bool) (folders : List (List ℕ)) (gathered : Gath
   pub left_out_are : map faulty_line_view cut.left_out.items ≡ map include_fault gathered.left_out ++ found
   pub kept_are : map string_bytes cut.line_files.items ≡ map (λ line. line.file) lines
   pub rewritten_is : cut.rewritten ≡ count_rewritten (start_edits rewrite folders root gathered) lines
-  pub read : IsRead (written_files dir gathered.names (finished (start_edits rewrite folders root gathered) found gathered)) (written_root dir root)
+
+-- these files, which have their paths in the folder, define no table, and this is why
+abbrev pub IsUnwritten : Texts → List ℕ → List ℕ → CutFault → Type 0
+IsUnwritten files root dir (NotRead why) = IsUnreadAs files (written_root dir root) why
+IsUnwritten files root dir other = ⊥
 
 -- the cut of the table whose root has a path, for answers of the source: of these files, as they
--- were gathered
+-- were gathered; and its files define this table
 abbrev pub IsCut : Bool → FileAnswers → List ℕ → List ℕ → CutTable → Type 0
 IsCut rewrite gives root dir of =
-    (answers : Answers) × AreGiven gives answers × (gathered_from gives.folders (answer_at answers) root ≡ Ok (gathered_view of.gathered))
-    × IsCutOf rewrite gives.folders (gathered_view of.gathered) root dir of.cut
+    IsGathered gives root of.gathered × IsCutOf rewrite gives.folders (gathered_view of.gathered) root dir of.cut
+    × IsReadAs (map file_view of.cut.files.items) (written_root dir root) of.table
 
 -- files that were gathered can't be settled, or what is written is no table
 abbrev pub IsUncut : Bool → List (List ℕ) → List ℕ → List ℕ → GatheredView → CutFault → Type 0
 IsUncut rewrite folders root dir gathered (Gather why) = ⊥
 IsUncut rewrite folders root dir gathered (Load why) = IsUnsettled folders root (start_files rewrite folders root gathered) why
 IsUncut rewrite folders root dir gathered (NotRead why) =
-    (settled : Texts) × (found : List FaultyLineView) × (lines : List LineView)
-    × IsSettled folders root (start_files rewrite folders root gathered) settled found lines
-    × IsUnreadAs (written_files dir gathered.names (finished (start_edits rewrite folders root gathered) found gathered)) (written_root dir root) why
+    (cut : Cut) × IsCutOf rewrite folders gathered root dir cut × IsUnreadAs (map file_view cut.files.items) (written_root dir root) why
 
 -- why a table isn't cut: its files can't be gathered; or they are, and this is why
 abbrev pub IsCutFault : Bool → FileAnswers → List ℕ → List ℕ → CutFault → Type 0
 IsCutFault rewrite gives root dir (Gather why) = IsGatherFault gives root why
-IsCutFault rewrite gives root dir why =
-    (answers : Answers) × AreGiven gives answers × (gathered : GatheredView) × (gathered_from gives.folders (answer_at answers) root ≡ Ok gathered)
-    × IsUncut rewrite gives.folders root dir gathered why
+IsCutFault rewrite gives root dir why = (gathered : Gathered) × IsGathered gives root gathered × IsUncut rewrite gives.folders root dir (gathered_view gathered) why

@@ -1,6 +1,9 @@
+pub mod Contractions
 pub mod Cuts
 pub mod Edits
 pub mod Files
+pub mod Marks
+pub mod Putting
 pub mod Rewriting
 pub mod Rounds
 pub mod Settling

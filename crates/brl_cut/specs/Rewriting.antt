@@ -1,6 +1,6 @@
 -- Lines that are rewritten, so that they are read. A line is rewritten by what is put before it: a
 -- line that is read, and the mark of a comment. The project's own choice.
-use Rattle.std.specs.Prelude.{ℕ, Bool, ◌&&◌, ◌==◌, nat_eq, nat_le, if◌then◌else◌, List, [], ◌∷◌, ◌++◌, codes, filter, flat_map, is_some, length, map, option_map, Option, Some, None, Result, Ok, Err}
+use Rattle.std.specs.Prelude.{ℕ, Bool, nat_eq, if◌then◌else◌, List, [], ◌∷◌, ◌++◌, codes, filter, flat_map, fold, is_some, length, map, option_map, Option, Some, None, Result, Ok, Err}
 use Rattle.std.specs.List.{list_any}
 use Rattle.std.specs.Map.{lookup}
 use Rattle.std.specs.Option.{option_and_then, option_map_or}
@@ -11,37 +11,15 @@ use Rattle.brl_lines.specs.Lines.{LocationView, Refusal, location_of}
 use Rattle.brl_lines.specs.Tokens.{LineView, TokenView}
 use Rattle.brl_lines.specs.declared.operand.CharsFault.{CharsFault}
 use Rattle.brl_rules.specs.declared.rule.Info.{Info}
-use Rattle.brl_table.specs.Survey.{good_characters, has_characters, survey_of}
+use Rattle.brl_table.specs.Survey.{good_characters}
+use Rattle.brl_cut.specs.Contractions.{contraction_edits}
 use Rattle.brl_cut.specs.Edits.{EditView, Texts, edited_files, is_of}
+use Rattle.brl_cut.specs.Putting.{edit_if_put, line_in_place, words_in_place}
 use Rattle.brl_cut.specs.Settling.{lines_among}
-
--- ---- What is put before a line
-
--- the words of a line, with a blank between two of them
-abbrev pub line_text : LineView → List ℕ
-line_text line = line.opcode.text ++ flat_map (λ operand. codes " " ++ operand.text) line.operands
-
--- the edit that puts a line before the one in its place, which becomes a comment
-abbrev pub edit_to : LineView → EditView
-edit_to new = record { file = new.file; line = new.line; prefix = line_text new ++ codes " # " }
-
--- whether a line by itself defines a character, and has no fault
-abbrev pub is_definition : LineView → Bool
-is_definition line = has_characters (line ∷ []) && (length (survey_of (line ∷ [])).faulty == 0)
-
--- whether a line may be put before another: it is a definition, and the prefix isn't too long
-abbrev pub may_be_put : LineView → Bool
-may_be_put new = is_definition new && nat_le (length (edit_to new).prefix) 1024
-
--- the edit that puts a line before the one in its place, where it may be put
-abbrev pub edit_if_put : LineView → List EditView
-edit_if_put new = if may_be_put new then edit_to new ∷ [] else []
+use Rattle.brl_cut.specs.declared.rewriting.Form.{Form}
+use Rattle.brl_cut.specs.declared.rewriting.Form.TheVariants.{Noback, Base, Contraction}
 
 -- ---- Lines that begin with `noback`
-
--- a line of an opcode and two operands, in the place of another line
-abbrev pub line_in_place : LineView → TokenView → TokenView → TokenView → LineView
-line_in_place line opcode first second = record { file = line.file; line = line.line; opcode = opcode; operands = first ∷ second ∷ [] }
 
 -- the edit that puts these words before a line: an opcode and its first two operands
 abbrev pub edit_to_words : LineView → List TokenView → List EditView
@@ -67,13 +45,9 @@ character_alone word = the_only (characters_of word)
 abbrev pub dots_among : List (ℕ × Info) → List ℕ → Option (List ℕ)
 dots_among characters word = option_and_then (λ c. option_map (λ info. spelling info.cells) (lookup (nat_eq c) characters)) (character_alone word)
 
--- a word that is in no file
-abbrev pub new_word : List ℕ → TokenView
-new_word text = record { text = text; start = 0 }
-
 -- the `uplow` line of a pair of characters with the same dots, in the place of another line
 abbrev pub uplow_in_place : LineView → List ℕ → List ℕ → LineView
-uplow_in_place line pair dots = line_in_place line (new_word (codes "uplow")) (new_word pair) (new_word dots)
+uplow_in_place line pair dots = words_in_place line (codes "uplow") pair dots
 
 -- the edit that puts the `uplow` line of two words before a line: each spells one character, and
 -- the second one's dots are those that it has among these characters
@@ -92,7 +66,7 @@ edit_to_pair characters line others = []
 abbrev pub base_edit : List (ℕ × Info) → LineView → List EditView
 base_edit characters line = if bytes_eq line.opcode.text (codes "base") then edit_to_pair characters line line.operands else []
 
--- ---- The files
+-- ---- The lines of files
 
 -- the edits of lines that begin with `noback`
 abbrev pub noback_edits : List LineView → List EditView
@@ -112,24 +86,39 @@ lines_or_none (Err refused) = []
 abbrev pub known_lines : List (List ℕ) → List ℕ → Texts → List LineView
 known_lines folders root files = lines_or_none (lines_among folders files root)
 
--- these files after the edits of lines that begin with `noback`
-abbrev pub without_noback : List (List ℕ) → List ℕ → Texts → Texts
-without_noback folders root files = edited_files (noback_edits (known_lines folders root files)) files
+-- ---- Steps
 
--- the edits that rewrite lines of these files, where this is asked for: those of `noback`, and then
--- those of `base uppercase`
+-- the edits that rewrite lines of a form
+abbrev pub edits_of_form : Form → List LineView → List EditView
+edits_of_form Noback lines = noback_edits lines
+edits_of_form Base lines = base_edits lines
+edits_of_form Contraction lines = contraction_edits lines
+
+-- the edits that rewrite lines of a form in these files, and the files after them
+abbrev pub step_edits : List (List ℕ) → List ℕ → Form → Texts → List EditView
+step_edits folders root form files = edits_of_form form (known_lines folders root files)
+
+abbrev pub after_step : List (List ℕ) → List ℕ → Form → Texts → Texts
+after_step folders root form files = edited_files (step_edits folders root form files) files
+
+-- the edits of one step after another, and the files after all
+abbrev pub steps_edits : List (List ℕ) → List ℕ → List Form → Texts → List EditView
+steps_edits folders root [] files = []
+steps_edits folders root (form ∷ forms) files = step_edits folders root form files ++ steps_edits folders root forms (after_step folders root form files)
+
+abbrev pub after_steps : List (List ℕ) → List ℕ → List Form → Texts → Texts
+after_steps folders root forms files = fold (λ texts form. after_step folders root form texts) files forms
+
+-- the steps, where rewriting is asked for
+abbrev pub forms_if : Bool → List Form
+forms_if rewrite = if rewrite then Noback ∷ Base ∷ Contraction ∷ [] else []
+
+-- the edits that rewrite lines of these files, where this is asked for, and the files after them
 abbrev pub rewriting_edits : Bool → List (List ℕ) → List ℕ → Texts → List EditView
-rewriting_edits rewrite folders root files =
-    if rewrite
-    then noback_edits (known_lines folders root files) ++ base_edits (known_lines folders root (without_noback folders root files))
-    else []
+rewriting_edits rewrite folders root files = steps_edits folders root (forms_if rewrite) files
 
--- these files after their lines are rewritten, where this is asked for
 abbrev pub rewritten_files : Bool → List (List ℕ) → List ℕ → Texts → Texts
-rewritten_files rewrite folders root files =
-    if rewrite
-    then edited_files (base_edits (known_lines folders root (without_noback folders root files))) (without_noback folders root files)
-    else files
+rewritten_files rewrite folders root files = after_steps folders root (forms_if rewrite) files
 
 -- whether the line at a place is rewritten
 abbrev pub is_rewritten : List EditView → LocationView → Bool

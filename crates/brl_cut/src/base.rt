@@ -3,10 +3,11 @@
 ghost use Rattle.std.specs.Prelude.{◌≡◌, ◌++◌, IfOk, OnOk, flat_map, map, option_map, string_bytes};
 ghost use Rattle.brl_lines.specs.Views.{line_view, token_view};
 ghost use Rattle.brl_cut.specs.Files.{edit_view};
-ghost use Rattle.brl_cut.specs.Rewriting.{base_edit, base_edits, character_alone as character_spelled, dots_among as dots_spelled, edit_if_put, edit_to_pair, edit_to_uplow, uplow_in_place};
+ghost use Rattle.brl_cut.specs.Putting.{edit_if_put};
+ghost use Rattle.brl_cut.specs.Rewriting.{base_edit, base_edits, character_alone as character_spelled, dots_among as dots_spelled, edit_to_pair, edit_to_uplow, uplow_in_place};
 
 use crate::files::Edit;
-use crate::putting::push_if_put;
+use crate::putting::{push_if_put, words_in_place};
 use brl_cells::write_dots;
 use brl_failure::Failure;
 use brl_lines::{Line, Token, chars_of};
@@ -56,24 +57,7 @@ fn push_uplow(
 ) -> Result<(), AllocError>
     ensures { OnOk result (map edit_view edits.new.items ≡ map edit_view edits.old.items ++ edit_if_put (uplow_in_place (line_view line.now) pair.now dots.now)) }
 {
-    let mut operands = Vec::with_capacity(alloc, 2)?;
-    operands.push(Token {
-        text: pair,
-        start: 0,
-    })?;
-    operands.push(Token {
-        text: dots,
-        start: 0,
-    })?;
-    let new = Line {
-        file: line.file,
-        line: line.line,
-        opcode: Token {
-            text: "uplow",
-            start: 0,
-        },
-        operands,
-    };
+    let new = words_in_place(alloc, line, "uplow", pair, dots)?;
     push_if_put(alloc, edits, &new)
 }
 

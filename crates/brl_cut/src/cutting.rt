@@ -3,12 +3,15 @@ ghost use Rattle.std.specs.Prelude.{◌≡◌, IfErr, IfOk, OnOk, map, string_by
 ghost use Rattle.brl_failure.specs.Failure.{GivesAs, IfFault};
 ghost use Rattle.brl_lines.specs.GatherFaults.{gathered_view};
 ghost use Rattle.brl_lines.specs.Views.{load_fault_view, location_view};
-ghost use Rattle.brl_cut.specs.Cuts.{IsCut, IsCutFault, IsCutOf, IsRead, IsReadAs, IsUncut, IsUnreadAs, finished, start_edits, start_files, without_includes};
+ghost use Rattle.brl_cut.specs.Cuts.{IsCut, IsCutFault, IsCutOf, IsRead, IsReadAs, IsUncut, IsUnreadAs, IsUnwritten, finished, start_edits, start_files, without_includes, written_root as written_root_of};
+ghost use Rattle.brl_cut.specs.Marks.{marked_files};
 ghost use Rattle.brl_table.specs.Survey.{faulty_line_view};
 ghost use Rattle.brl_cut.specs.Files.{edit_view, file_view};
 ghost use Rattle.brl_cut.specs.Settling.{lines_among};
 
-use crate::files::{Edit, edit_files, edits_of, load_files, source_of, with_comments};
+use crate::files::{
+    BecomesComment, Edit, edit_files, edits_of, load_files, source_of, with_comments,
+};
 use crate::includes::include_faults;
 use crate::placing::{place_files, written_root};
 use crate::rewriting::{Rewritten, count_rewritten, rewrite_files};
@@ -34,11 +37,12 @@ pub enum CutFault {
     NotRead(NoTable),
 }
 
-/// The files of a table, as they were gathered, and the cut of it.
+/// The files of a table, as they were gathered, the cut of it, and the table that this is.
 #[derive(Drop)]
 pub struct CutTable {
     pub gathered: Gathered,
     pub cut: Cut,
+    pub table: Table,
 }
 
 /// The paths of files.
@@ -53,13 +57,8 @@ fn paths_of(alloc: Global, files: &[GatheredFile]) -> Result<Vec<String>, AllocE
 }
 
 /// The table whose root is at a path, of these files and no others, which are looked for in no
-/// folders. `Load` where a file can't be loaded, `Table` where a line is faulty: neither comes of
-/// the files of a cut.
-pub fn read_back(
-    alloc: Global,
-    files: &[GatheredFile],
-    root: &str,
-) -> Result<Table, Failure<NoTable>>
+/// folders.
+fn read_back(alloc: Global, files: &[GatheredFile], root: &str) -> Result<Table, Failure<NoTable>>
     ensures table { IfOk result (IsReadAs (map file_view files.now) root.now) }
     ensures fault { IfErr result (IfFault (IsUnreadAs (map file_view files.now) root.now)) }
 {
@@ -67,13 +66,18 @@ pub fn read_back(
     load_table(alloc, &mut source, root)
 }
 
-/// Whether the files can be read so.
-fn check_read(alloc: Global, files: &[GatheredFile], root: &str) -> Result<(), Failure<NoTable>>
-    ensures read { OnOk result (IsRead (map file_view files.now) root.now) }
-    ensures fault { IfErr result (IfFault (IsUnreadAs (map file_view files.now) root.now)) }
+/// The table of these files, whose root has a path before it is written into a folder.
+fn read_written(
+    alloc: Global,
+    files: &[GatheredFile],
+    root: &str,
+    dir: &str,
+) -> Result<Table, Failure<CutFault>>
+    ensures table { IfOk result (IsReadAs (map file_view files.now) (written_root_of dir.now root.now)) }
+    ensures fault { IfErr result (IfFault (IsUnwritten (map file_view files.now) root.now dir.now)) }
 {
-    read_back(alloc, files, root)?;
-    Ok(())
+    let written = written_root(alloc, dir, root)?;
+    raise(read_back(alloc, files, written.as_str()), CutFault::NotRead)
 }
 
 /// All lines of a table whose files are gathered, and were looked for in these folders too, as they
@@ -156,9 +160,11 @@ fn finish_files(
 ///
 /// With `rewrite` lines are rewritten before faulty ones are left out. Before a line `noback OP C D
 /// ..` where `OP C D` by itself defines a character that is put, and ` # `, so that the line itself
-/// is a comment; and then before a line `base uppercase C D` in the same way `uplow CD` with the
-/// dots that the small letter D has by other lines. A line that
-/// is rewritten and then left out is written as it was.
+/// is a comment; then before a line `base uppercase C D` in the same way `uplow CD` with the dots
+/// that the small letter D has by other lines; and then before a line `contraction X`, where each
+/// character of X is defined and none is a capital, `word X` with the dots of the first
+/// `nocontractsign` line, those of the last `letsign` line and those of the characters, if these
+/// are 16 cells or fewer. A line that is rewritten and then left out is written as it was.
 pub fn cut_table<S: Source>(
     alloc: Global,
     source: &mut S,
@@ -172,7 +178,72 @@ pub fn cut_table<S: Source>(
 {
     let gathered = raise(gather(alloc, source, root), CutFault::Gather)?;
     let cut = cut_gathered(alloc, source.folders(), &gathered, root, dir, rewrite)?;
-    Ok(CutTable { gathered, cut })
+    let table = read_written(alloc, cut.files.as_slice(), root, dir)?;
+    Ok(CutTable {
+        gathered,
+        cut,
+        table,
+    })
+}
+
+/// The files of a cut for the folder `dir`, where `# can act: ` is put before the lines at these
+/// places, which are comments. A place has the path that its file had before it was cut. `NotRead`
+/// where the files define no table any more, which never comes of comments.
+pub fn mark_lines(
+    alloc: Global,
+    of: &CutTable,
+    root: &str,
+    dir: &str,
+    places: &[Location],
+) -> Result<Vec<GatheredFile>, Failure<CutFault>>
+    ensures files { IfOk result (λ files. map file_view files.items ≡ marked_files dir.now (map location_view places.now) of.now) }
+    ensures read { OnOk result (IsRead (marked_files dir.now (map location_view places.now) of.now) (written_root_of dir.now root.now)) }
+    ensures fault { IfErr result (IfFault (IsUnwritten (marked_files dir.now (map location_view places.now) of.now) root.now dir.now)) }
+{
+    let files = mark_files(alloc, of, dir, places)?;
+    check_written(alloc, files.as_slice(), root, dir)?;
+    Ok(files)
+}
+
+/// Whether these files define a table, whose root has a path before it is written into a folder.
+fn check_written(
+    alloc: Global,
+    files: &[GatheredFile],
+    root: &str,
+    dir: &str,
+) -> Result<(), Failure<CutFault>>
+    ensures read { OnOk result (IsRead (map file_view files.now) (written_root_of dir.now root.now)) }
+    ensures fault { IfErr result (IfFault (IsUnwritten (map file_view files.now) root.now dir.now)) }
+{
+    read_written(alloc, files, root, dir)?;
+    Ok(())
+}
+
+/// The files of a cut for a folder, with marks before the lines at these places.
+fn mark_files(
+    alloc: Global,
+    of: &CutTable,
+    dir: &str,
+    places: &[Location],
+) -> Result<Vec<GatheredFile>, AllocError>
+    ensures { IfOk result (λ files. map file_view files.items ≡ marked_files dir.now (map location_view places.now) of.now) }
+{
+    let Cut { files, paths, .. } = &of.cut;
+    let before = place_files(alloc, "", paths.as_slice(), files.as_slice())?;
+    let marked = with_comments(alloc, before.as_slice(), places)?;
+    place_files(alloc, dir, of.gathered.names.as_slice(), marked.as_slice())
+}
+
+impl BecomesComment for Location {
+    ghost use Rattle.brl_lines.specs.Views.{location_view};
+    ghost use Rattle.brl_cut.specs.Marks.{mark};
+
+    ghost edit_of = { λ place. mark (location_view place) };
+
+    fn edit(&self, alloc: Global) -> Result<Edit, AllocError> {
+        let prefix = String::from_str(alloc, "# can act: ")?;
+        Edit::new(alloc, self.file.as_str(), self.line, prefix)
+    }
 }
 
 /// Cuts a table whose files are gathered, and were looked for in these folders too.
@@ -193,11 +264,6 @@ fn cut_gathered(
     let names = gathered.names.as_slice();
     let texts = finish_files(alloc, gathered, new.edits, settled.found.as_slice())?;
     let files = place_files(alloc, dir, names, texts.as_slice())?;
-    let new_root = written_root(alloc, dir, root)?;
-    raise(
-        check_read(alloc, files.as_slice(), new_root.as_str()),
-        CutFault::NotRead,
-    )?;
     let mut left_out = include_faults(alloc, gathered.left_out.as_slice())?;
     let Settled { mut found, places } = settled;
     left_out.append(&mut found)?;

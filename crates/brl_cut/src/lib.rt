@@ -3,15 +3,17 @@
 //! `cut_table` gathers the files of a table, makes the lines that aren't read comments, each in its
 //! place, and gives the files with the paths where they are to be written. `text` puts text before
 //! lines, `files` has files in memory and edits of their lines, `rewriting` rewrites lines
-//! (`noback` and `base` have the two forms, `putting` what is put before a line), `rounds` surveys
-//! files until no line is faulty, `includes` has include lines that are left out, `placing` the
-//! paths where files are written, and `cutting` has the whole. `load_without_dictionaries` loads a
-//! table without its hyphenation dictionaries.
+//! (`noback`, `base` and `contraction` have the three forms, `signs` the cells of indicators,
+//! `putting` what is put before a line), `rounds` surveys files until no line is faulty, `includes`
+//! has include lines that are left out, `placing` the paths where files are written, and `cutting`
+//! has the whole, and marks lines of it. `load_without_dictionaries` loads a table without its
+//! hyphenation dictionaries.
 //!
 //! Room 1, text and tables (docs/dev/ARCHITECTURE.md). The definitions begin in `specs/Cuts.antt`.
 #![tactic(auto)]
 
 mod base;
+mod contraction;
 mod cutting;
 mod files;
 mod includes;
@@ -20,10 +22,11 @@ mod placing;
 mod putting;
 mod rewriting;
 mod rounds;
+mod signs;
 mod skipping;
 mod text;
 
 pub use brl_table::Cut;
-pub use cutting::{CutFault, CutTable, cut_table, load_whole, read_back};
+pub use cutting::{CutFault, CutTable, cut_table, load_whole, mark_lines};
 pub use placing::written_root;
 pub use skipping::{WithoutDictionaries, load_without_dictionaries};

@@ -1,11 +1,11 @@
-//! Puts a definition before the line in whose place it is read.
-ghost use Rattle.std.specs.Prelude.{◌≡◌, ◌++◌, IfOk, OnOk, map, string_bytes};
-ghost use Rattle.brl_lines.specs.Views.{line_view};
+//! Puts a line before the one in whose place it is read.
+ghost use Rattle.std.specs.Prelude.{◌≡◌, [], ◌∷◌, ◌++◌, IfOk, OnOk, map, string_bytes};
+ghost use Rattle.brl_lines.specs.Views.{line_view, token_view};
 ghost use Rattle.brl_cut.specs.Files.{edit_view};
-ghost use Rattle.brl_cut.specs.Rewriting.{edit_if_put, is_definition as is_definition_by, line_text as text_of_line};
+ghost use Rattle.brl_cut.specs.Putting.{edit_if_put, edit_to, is_definition as is_definition_by, line_text as text_of_line, new_word as new_word_by, words_in_place as words_in_place_by};
 
 use crate::files::Edit;
-use brl_lines::Line;
+use brl_lines::{Line, Token};
 use brl_table::survey;
 use std::alloc::{AllocError, Global};
 use std::slice;
@@ -25,12 +25,54 @@ fn line_text(alloc: Global, line: &Line<'_>) -> Result<String, AllocError>
     Ok(text)
 }
 
+/// A line of three words that are in no file, in the place of another line.
+pub(crate) fn words_in_place<'a>(
+    alloc: Global,
+    line: &Line<'a>,
+    opcode: &'a str,
+    first: &'a str,
+    second: &'a str,
+) -> Result<Line<'a>, AllocError>
+    ensures { IfOk result (λ new. line_view new ≡ words_in_place_by (line_view line.entry.now) opcode.entry.now first.entry.now second.entry.now) }
+{
+    let mut operands = Vec::with_capacity(alloc, 2)?;
+    operands.push(new_word(first))?;
+    operands.push(new_word(second))?;
+    Ok(Line {
+        file: line.file,
+        line: line.line,
+        opcode: new_word(opcode),
+        operands,
+    })
+}
+
+/// A word that is in no file.
+fn new_word(text: &str) -> Token<'_>
+    ensures { token_view result ≡ new_word_by text.now }
+{
+    Token { text, start: 0 }
+}
+
 /// Whether a line by itself defines a character, and has no fault.
 fn is_definition(alloc: Global, line: &Line<'_>) -> Result<bool, AllocError>
     ensures { IfOk result (λ is. is ≡ is_definition_by (line_view line.now)) }
 {
     let found = survey(alloc, slice::from_ref(line))?;
     Ok(found.has_characters && found.faulty.is_empty())
+}
+
+/// Adds the edit that puts a line before the one in its place.
+pub(crate) fn push_put(
+    alloc: Global,
+    edits: &mut Vec<Edit>,
+    new: &Line<'_>,
+) -> Result<(), AllocError>
+    ensures { OnOk result (map edit_view edits.new.items ≡ map edit_view edits.old.items ++ edit_to (line_view new.now) ∷ []) }
+{
+    let mut prefix = line_text(alloc, new)?;
+    prefix.push_str(" # ")?;
+    edits.push(Edit::new(alloc, new.file, new.line, prefix)?)?;
+    Ok(())
 }
 
 /// Adds the edit that puts a line before the one in its place, where it may be put.

@@ -4,14 +4,23 @@ ghost use Rattle.std.specs.Option.{option_map_or};
 ghost use Rattle.brl_lines.specs.Views.{line_view, location_view};
 ghost use Rattle.brl_cut.specs.Edits.{is_of};
 ghost use Rattle.brl_cut.specs.Files.{edit_view, file_view};
-ghost use Rattle.brl_cut.specs.Rewriting.{is_rewritten as is_rewritten_by, known_lines, rewriting_edits, rewritten_files};
+ghost use Rattle.brl_cut.specs.Rewriting.{after_steps, edits_of_form as edits_by_form, is_rewritten as is_rewritten_by, known_lines, rewriting_edits, rewritten_files, step_edits as step_edits_by, steps_edits};
 
 use crate::base::base_of_lines;
+use crate::contraction::contraction_of_lines;
 use crate::files::{Edit, edit_files, load_files};
 use crate::noback::noback_of_lines;
 use brl_failure::Failure;
 use brl_lines::{GatheredFile, Line, Loaded, Location};
 use std::alloc::{AllocError, Global};
+
+/// A form of lines that are rewritten.
+#[derive(Clone, Copy)]
+pub(crate) enum Form {
+    Noback,
+    Base,
+    Contraction,
+}
 
 /// Files whose lines are rewritten, and the edits that did it.
 #[derive(Drop)]
@@ -47,6 +56,53 @@ fn lines_of(alloc: Global, loaded: &Option<Loaded>) -> Result<Vec<Line<'_>>, All
     }
 }
 
+/// The edits that rewrite lines of a form.
+fn edits_of_form(alloc: Global, form: Form, lines: &[Line<'_>]) -> Result<Vec<Edit>, AllocError>
+    ensures { IfOk result (λ edits. map edit_view edits.items ≡ edits_by_form form (map line_view lines.now)) }
+{
+    match form {
+        Form::Noback => noback_of_lines(alloc, lines),
+        Form::Base => base_of_lines(alloc, lines),
+        Form::Contraction => contraction_of_lines(alloc, lines),
+    }
+}
+
+/// The edits that rewrite lines of a form in these files.
+fn step_edits(
+    alloc: Global,
+    folders: &[String],
+    files: &[GatheredFile],
+    root: &str,
+    form: Form,
+) -> Result<Vec<Edit>, AllocError>
+    ensures { IfOk result (λ edits. map edit_view edits.items ≡ step_edits_by (map string_bytes folders.now) root.now form (map file_view files.now)) }
+{
+    let loaded = load_if_whole(alloc, folders, files, root)?;
+    let lines = lines_of(alloc, &loaded)?;
+    edits_of_form(alloc, form, lines.as_slice())
+}
+
+/// Rewrites the lines of files, form by form.
+fn rewrite_forms(
+    alloc: Global,
+    folders: &[String],
+    files: Vec<GatheredFile>,
+    root: &str,
+    forms: &[Form],
+) -> Result<Rewritten, AllocError>
+    ensures files { IfOk result (λ new. map file_view new.files.items ≡ after_steps (map string_bytes folders.now) root.now forms.now (map file_view files.items)) }
+    ensures edits { IfOk result (λ new. map edit_view new.edits.items ≡ steps_edits (map string_bytes folders.now) root.now forms.now (map file_view files.items)) }
+{
+    let mut files = files;
+    let mut edits = Vec::new(alloc);
+    for form in forms {
+        let mut more = step_edits(alloc, folders, files.as_slice(), root, *form)?;
+        files = edit_files(alloc, files.as_slice(), more.as_slice())?;
+        edits.append(&mut more)?;
+    }
+    Ok(Rewritten { files, edits })
+}
+
 /// Rewrites the lines of files, where this is asked for.
 pub(crate) fn rewrite_files(
     alloc: Global,
@@ -58,18 +114,12 @@ pub(crate) fn rewrite_files(
     ensures files { IfOk result (λ new. map file_view new.files.items ≡ rewritten_files rewrite (map string_bytes folders.now) root.now (map file_view files.items)) }
     ensures edits { IfOk result (λ new. map edit_view new.edits.items ≡ rewriting_edits rewrite (map string_bytes folders.now) root.now (map file_view files.items)) }
 {
-    if !rewrite {
-        let edits = Vec::new(alloc);
-        return Ok(Rewritten { files, edits });
+    if rewrite {
+        let forms = [Form::Noback, Form::Base, Form::Contraction];
+        rewrite_forms(alloc, folders, files, root, &forms)
+    } else {
+        rewrite_forms(alloc, folders, files, root, &[])
     }
-    let old = load_if_whole(alloc, folders, files.as_slice(), root)?;
-    let mut edits = noback_of_lines(alloc, lines_of(alloc, &old)?.as_slice())?;
-    let files = edit_files(alloc, files.as_slice(), edits.as_slice())?;
-    let new = load_if_whole(alloc, folders, files.as_slice(), root)?;
-    let mut others = base_of_lines(alloc, lines_of(alloc, &new)?.as_slice())?;
-    let files = edit_files(alloc, files.as_slice(), others.as_slice())?;
-    edits.append(&mut others)?;
-    Ok(Rewritten { files, edits })
 }
 
 /// Whether an edit is of the line at a place.

@@ -1,5 +1,6 @@
 -- What a run that ends with status 1 did.
 use Rattle.std.proofs.Common.{◌≡◌, ◌∙◌, ◌⊎◌, ℕ, Bool, true, false, if◌then◌else◌, List, ap, arith, length, inl, inr, Option, None, Some, Result, Ok, Err, refl, subst, sym}
+use Rattle.std.specs.Borrow.{Bor}
 use Rattle.std.specs.Global.{Global}
 use Rattle.std.specs.Option.{option_copied}
 use Rattle.std.specs.Prelude.{◌==◌, String, string_bytes}
@@ -42,7 +43,8 @@ module _ (before after : World) (same_file : MayBeSame) (input : Option (List �
   -- one of the reports of status 1 was written
   abbrev pub IsReported : Type 0
   IsReported =
-      ReportsClash before after ⊎ ReportsRefusal before after ⊎ ReportsClashes before after ⊎ ReportsUnused before after ⊎ ReportsSuspect before after
+      ReportsClash before after ⊎ ReportsRefusal before after ⊎ ReportsClashes before after ⊎ ReportsUnused before after
+      ⊎ ((only : Option (Bor (List ℕ))) × ReportsSuspect only before after)
       ⊎ ReportsCut before after ⊎ ReportsSlips before after
 
   -- which report was written
@@ -52,7 +54,7 @@ module _ (before after : World) (same_file : MayBeSame) (input : Option (List �
   report_of (question.Search path out limit accept option) means = inl means
   report_of (question.Clashes path limit first option pairs) means = inr (inr (inl (path.now, option, pairs, means)))
   report_of (question.Unused path limit option) means = inr (inr (inr (inl means)))
-  report_of (question.Survey paths brief) means = inr (inr (inr (inr (inl means))))
+  report_of (question.Survey paths brief only) means = inr (inr (inr (inr (inl (only, means)))))
   report_of (question.Cut path dir rewrite only) means = inr (inr (inr (inr (inr (inl (path.now, dir.now, rewrite, (only, means)))))))
   report_of (question.Slips path columns) means = inr (inr (inr (inr (inr (inr means)))))
   report_of asked means = absurd means
@@ -84,7 +86,7 @@ module _ (before after : World) (same_file : MayBeSame) (input : Option (List �
   gains (question.Check path cert accept option) means keeps = inl (same_may keeps)
   gains (question.Search path out limit accept option) means keeps = inl (same_may keeps)
   gains (question.Unused path limit option) means keeps = inl (same_may keeps)
-  gains (question.Survey paths brief) means keeps = inl (same_may keeps)
+  gains (question.Survey paths brief only) means keeps = inl (same_may keeps)
   gains (question.Slips path columns) means keeps = inl (same_may keeps)
   gains (question.Cut path dir rewrite only) means (files, new, written, read) = inr (inr (files, (new, written.0, written.1.1)))
   gains asked means keeps = absurd means

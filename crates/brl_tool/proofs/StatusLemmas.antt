@@ -2,14 +2,15 @@
 use Rattle.std.proofs.Common.{◌≡◌, ◌≢◌, ◌∙◌, ◌⊎◌, ℕ, suc, Bool, ap, true, false, cond, List, [], ◌∷◌, All, arith, length, map, inl, inr, Option, None, Some, Result, Ok, Err, refl, subst, sym}
 use Rattle.brl_acting.specs.WholeTable.{ActingView}
 use Rattle.brl_cut.specs.Files.{file_view}
-use Rattle.brl_table.specs.declared.readable.Cut.{Cut}
 use Rattle.brl_tool.specs.Cutting.{new_file_view, status_of_cut, status_over}
 use Rattle.std.specs.Global.{Vec}
 use Rattle.std.specs.Option.{option_copied}
-use Rattle.std.proofs.lemmas.Bool.{eqb-true}
-use Rattle.std.specs.Prelude.{◌==◌, ◌||◌, flat_map, if◌then◌else◌, is_some, nat_lt, string_bytes}
+use Rattle.std.proofs.lemmas.Bool.{eqb-true, lt-ltb}
+use Rattle.std.specs.Prelude.{◌==◌, ◌&&◌, ◌||◌, flat_map, if◌then◌else◌, is_some, nat_lt, string_bytes}
 use Rattle.std.specs.List.{list_all, list_any}
 use Rattle.std.proofs.lemmas.List.{get_or_append_left, length-append}
+use Rattle.std.proofs.lemmas.List.Elements.{All-cons, All-nil}
+use Rattle.std.specs.Borrow.{Bor}
 use Rattle.brl_cert.specs.Reading.{spelling}
 use Rattle.brl_lines.specs.Answer.{FileAnswers}
 use Rattle.brl_lines.specs.Lines.{Answers as Given}
@@ -53,15 +54,16 @@ use Rattle.brl_tool.specs.FileBytes.{IsFileWith}
 use Rattle.brl_tool.specs.Verdicts.{IsJudgement, SaysFound}
 use Rattle.brl_answers.specs.Answers.{with_alphabet_line}
 use Rattle.brl_cli.specs.declared.command.AlphabetOption.{AlphabetOption}
+use Rattle.brl_cli.specs.declared.command.AlphabetOption.TheVariants as alphabets
 use Rattle.brl_tool.specs.Alphabets.{spelled_by}
 use Rattle.brl_without.specs.Alphabet.{AlphabetView, left_out_by}
 use Rattle.brl_answers.specs.Delivery.{Delivers, World, KeepsFiles, Prints, Writes}
 use Rattle.brl_answers.specs.Files.{GivesAlso, MayBeSame, OthersStay}
 use Rattle.brl_answers.specs.Making.{FilesAfter}
-use Rattle.brl_tool.specs.Running.{Answers, Asks, ClashAtAccepted, KeepsFilesBut, KeepsFilesRefuted, KeepsFilesUnlessWritten, IsShownBut, MeansDone, MeansRefuted, ReportsCertificate, ReportsClash, WritesFile, WritesList, WritesTable}
+use Rattle.brl_tool.specs.Running.{Answers, Asks, ClashAtAccepted, KeepsFilesBut, KeepsFilesRefuted, KeepsFilesUnlessWritten, IsShownBut, MeansDone, MeansRefuted, NoneActs, ReportsCertificate, ReportsClash, SurveysSuspect, WritesFile, WritesList, WritesTable}
 use Rattle.brl_slips.specs.declared.findings.Findings.{Findings}
 use Rattle.brl_tool.specs.Slipping.{shows_none, status_of_slips}
-use Rattle.brl_tool.specs.Surveying.{IsPart, IsReportIfLoaded, IsSuspectAt, Part, status_by, text_of_part}
+use Rattle.brl_tool.specs.Surveying.{IsPart, IsReportIfAny, IsSuspectAt, Part, status_by, text_of_part}
 use Rattle.brl_tool.specs.Suspects.{has_unknown_opcode}
 use Rattle.brl_table.specs.Survey.{faulty_line_view}
 use Rattle.brl_answers.specs.Status.{status_of}
@@ -121,19 +123,74 @@ suspect_status true true e = refl
 suspect_status true false e = absurd cc
 suspect_status false suspect e = absurd cc
 
-suspect_report : (brief : Bool) (gives : FileAnswers) (path : List ℕ) (report : Option (List ℕ)) (suspect : Bool) → IsReportIfLoaded brief gives path report suspect → suspect ≡ true → IsSuspectAt gives path
-suspect_report brief gives path (Some text) suspect (skipped, paths, lines, without, of, same) e = (skipped, paths, lines, without, sym same ∙ e)
-suspect_report brief gives path None suspect (fault, unloaded, none) e = absurd cc
+-- a report says of its table that it is suspect
+reports_suspect : (brief : Bool) (gives : FileAnswers) (path : List ℕ) (report : Option (List ℕ)) (suspect : Bool) → IsReportIfAny brief None gives path report suspect → suspect ≡ true → IsSuspectAt gives path
+reports_suspect brief gives path (Some text) suspect (skipped, paths, lines, without, of, same) e = (skipped, paths, lines, without, sym same ∙ e)
+reports_suspect brief gives path None suspect (fault, refused, none) e = absurd cc
 
-first_suspect : (brief : Bool) (gives : FileAnswers) (part : Part) (others : Bool) → IsPart brief gives part → (others ≡ true → (path : List ℕ) × IsSuspectAt gives path) → (suspect : Bool) → part.suspect ≡ suspect
-    → (suspect || others) ≡ true → (path : List ℕ) × IsSuspectAt gives path
-first_suspect brief gives part others is later true same told = (part.path, suspect_report brief gives part.path part.report part.suspect is same)
-first_suspect brief gives part others is later false same told = later told
+-- a cut is suspect where a line can act, or its opcode is unknown
+either_suspect : (acting : List ActingView) (unknown : Bool) → (nat_lt 0 (length acting) || unknown) ≡ true → (unknown ≡ true) ⊎ (acting ≢ [])
+either_suspect [] unknown e = inl e
+either_suspect (line ∷ acting) unknown e = inr (λ none. cc)
 
-any_suspect : (brief : Bool) (gives : FileAnswers) (parts : List Part) → All (IsPart brief gives) parts → list_any (λ part. part.suspect) parts ≡ true → (path : List ℕ) × IsSuspectAt gives path
-any_suspect brief gives [] are told = absurd cc
-any_suspect brief gives (part ∷ parts) are told =
-    first_suspect brief gives part (list_any (λ p. p.suspect) parts) (are 0 part (omega arith)) (any_suspect brief gives parts (λ k d within. are (suc k) d (omega arith))) part.suspect refl told
+neither_suspect : (acting : List ActingView) (unknown : Bool) → (nat_lt 0 (length acting) || unknown) ≡ false → acting ≡ []
+neither_suspect [] unknown e = refl
+neither_suspect (line ∷ acting) unknown e =
+    let some : nat_lt 0 (length (line ∷ acting)) ≡ true = lt-ltb 0 (length (line ∷ acting)) (omega arith) in
+    cc (sym e ∙ ap (λ acts. acts || unknown) some)
+
+module _ (gives : FileAnswers) (word : Bor (List ℕ)) (alphabet : AlphabetView) (spelled : spelled_by (alphabets.Only word) ≡ Some alphabet) where
+  acts_suspect : (brief : Bool) (path : List ℕ) (report : Option (List ℕ)) (suspect : Bool) → IsReportIfAny brief (Some alphabet) gives path report suspect → suspect ≡ true → SurveysSuspect (Some word) gives path
+  acts_suspect brief path (Some text) suspect (of, cut, (acting, act, is, same)) e =
+      elim (either_suspect acting (has_unknown_opcode (map faulty_line_view of.cut.left_out.items)) (sym same ∙ e)) [
+        | inl unknown ↦ inl (of, cut, unknown)
+        | inr some ↦ inr (alphabet, spelled, (of, cut, (acting, act, some)))
+      ]
+  acts_suspect brief path None suspect (fault, refused, none) e = absurd cc
+
+  none_suspect : (brief : Bool) (path : List ℕ) (report : Option (List ℕ)) (suspect : Bool) → IsReportIfAny brief (Some alphabet) gives path report suspect → is_some report ≡ true → suspect ≡ false → NoneActs (Some word) gives path [] true
+  none_suspect brief path (Some text) suspect (of, cut, (acting, act, is, same)) some e =
+      (alphabet, spelled, (of, cut, (acting, act, neither_suspect acting (has_unknown_opcode (map faulty_line_view of.cut.left_out.items)) (sym same ∙ e))))
+  none_suspect brief path None suspect is some e = absurd cc
+
+-- what holds of the table of each part that is suspect holds of some table, where one part is
+module _ (Is : Part → Type 0) (P : List ℕ → Type 0) (holds : (part : Part) → Is part → part.suspect ≡ true → P part.path) where
+  first_suspect : (part : Part) (others : Bool) → Is part → (others ≡ true → (path : List ℕ) × P path) → (suspect : Bool) → part.suspect ≡ suspect → (suspect || others) ≡ true → (path : List ℕ) × P path
+  first_suspect part others is later true same told = (part.path, holds part is same)
+  first_suspect part others is later false same told = later told
+
+  any_suspect : (parts : List Part) → All Is parts → list_any (λ part. part.suspect) parts ≡ true → (path : List ℕ) × P path
+  any_suspect [] are told = absurd cc
+  any_suspect (part ∷ parts) are told =
+      first_suspect part (list_any (λ p. p.suspect) parts) (are 0 part (omega arith)) (any_suspect parts (λ k d within. are (suc k) d (omega arith))) part.suspect refl told
+
+-- what holds of the table of each part with a report that isn't suspect holds of all, where all
+-- parts are such ones
+both_true : (one other : Bool) → (one && other) ≡ true → (one ≡ true) × (other ≡ true)
+both_true true other e = (refl, e)
+both_true false other e = absurd cc
+
+both_false : (one other : Bool) → (one || other) ≡ false → (one ≡ false) × (other ≡ false)
+both_false true other e = absurd cc
+both_false false other e = (refl, e)
+
+module _ (Is : Part → Type 0) (P : List ℕ → Type 0) (holds : (part : Part) → Is part → is_some part.report ≡ true → part.suspect ≡ false → P part.path) where
+  all_done : (parts : List Part) → All Is parts → list_all (λ part. is_some part.report) parts ≡ true → list_any (λ part. part.suspect) parts ≡ false → All P (map (λ part. part.path) parts)
+  all_done [] are loaded none = All-nil P
+  all_done (part ∷ parts) are loaded none =
+      let reports = both_true (is_some part.report) (list_all (λ p. is_some p.report) parts) loaded in
+      let suspects = both_false part.suspect (list_any (λ p. p.suspect) parts) none in
+      All-cons P part.path (map (λ p. p.path) parts) (holds part (are 0 part (omega arith)) reports.0 suspects.0)
+      (all_done parts (λ k d within. are (suc k) d (omega arith)) reports.1 suspects.1)
+
+done_status : (loaded suspect : Bool) → status_by loaded suspect ≡ Done → (loaded ≡ true) × (suspect ≡ false)
+done_status true false e = (refl, refl)
+done_status true true e = absurd cc
+done_status false suspect e = absurd cc
+
+-- texts are all judged where none are
+all_units : (paths : List (List ℕ)) (gives : FileAnswers) → All (λ path. NoneActs None gives path [] true) paths
+all_units paths gives = λ k d within. tt
 
 -- a list of clashes has the status of its outcome, beside what a file takes out
 done_none : (stale : Bool) → (if stale then Faulty else Done) ≡ Refuted → ⊥
@@ -316,11 +373,11 @@ module _ (before after : World) (same_file : MayBeSame) where
   }
 
   -- the files of a cut were written, and define a table
-  table_written : (path dir : List ℕ) (made : Vec NewFile) (cut : Cut) (texts : Texts) (files : NewFiles) → files ≡ AllNew made → map new_file_view made.items ≡ map file_view cut.files.items
-      → map file_view cut.files.items ≡ texts → IsRead texts (written_root dir path) → FilesAfter before.gives after.gives files → WritesTable before after path dir
-  table_written path dir made cut texts files are same files_are read written =
+  table_written : (path dir : List ℕ) (made : Vec NewFile) (texts : Texts) (files : NewFiles) → files ≡ AllNew made → map new_file_view made.items ≡ texts
+      → IsRead texts (written_root dir path) → FilesAfter before.gives after.gives files → WritesTable before after path dir
+  table_written path dir made texts files are same read written =
       let (new, after_files) = subst (FilesAfter before.gives after.gives) are written in
-      (made.items, new, after_files, subst (λ (fs : Texts). IsRead fs (written_root dir path)) (sym (same ∙ files_are)) read)
+      (made.items, new, after_files, subst (λ (fs : Texts). IsRead fs (written_root dir path)) (sym same) read)
 
   means : (asked : Question) (answer : Answer) → IsAnswerTo asked answer → Means asked answer
   unfolding list_written
@@ -338,39 +395,53 @@ module _ (before after : World) (same_file : MayBeSame) where
         )
         | inr (left_is, right_is, none, says) ↦ ((λ done. tt), (λ refuted. let e = sym says.0 ∙ refuted in cc))
       ]
-  means (question.Survey paths brief) answer (parts, named, are, says) files prints = (
-    (λ done. tt),
+  means (question.Survey paths brief None) answer (parts, named, are, says) files prints = (
+    (λ done. all_units (map (λ path. path.now) paths.items) before.gives),
     (λ refuted.
-        let (path, is) = any_suspect brief before.gives parts are (suspect_status (list_all (λ part. is_some part.report) parts) (list_any (λ part. part.suspect) parts) (sym says.0 ∙ refuted)) in (
+        let (path, is) = any_suspect (IsPart brief None before.gives) (IsSuspectAt before.gives) (λ part is e. reports_suspect brief before.gives part.path part.report part.suspect is e)
+        parts are (suspect_status (list_all (λ part. is_some part.report) parts) (list_any (λ part. part.suspect) parts) (sym says.0 ∙ refuted)) in (
           (path, is, (flat_map (text_of_part (nat_lt 1 (length (map (λ p. p.now) paths.items)))) parts, subst (Prints before after) says.1 prints)),
           subst (FilesAfter before.gives after.gives) says.2 files,
         )),
   )
+  means (question.Survey paths brief (Some word)) answer surveyed files prints =
+      let (alphabet, spelled, (parts, named, are, says)) = then_ok surveyed in (
+        (λ done.
+            let all = done_status (list_all (λ part. is_some part.report) parts) (list_any (λ part. part.suspect) parts) (sym says.0 ∙ done) in
+            subst (All (λ path. NoneActs (Some word) before.gives path [] true)) named
+            (all_done (IsPart brief (Some alphabet) before.gives) (λ path. NoneActs (Some word) before.gives path [] true)
+            (λ part is some e. none_suspect before.gives word alphabet spelled brief part.path part.report part.suspect is some e) parts are all.0 all.1)),
+        (λ refuted.
+            let (path, is) = any_suspect (IsPart brief (Some alphabet) before.gives) (SurveysSuspect (Some word) before.gives)
+            (λ part is e. acts_suspect before.gives word alphabet spelled brief part.path part.report part.suspect is e)
+            parts are (suspect_status (list_all (λ part. is_some part.report) parts) (list_any (λ part. part.suspect) parts) (sym says.0 ∙ refuted)) in (
+              (path, is, (flat_map (text_of_part (nat_lt 1 (length (map (λ p. p.now) paths.items)))) parts, subst (Prints before after) says.1 prints)),
+              subst (FilesAfter before.gives after.gives) says.2 files,
+            )),
+      )
   means (question.Slips path columns) answer listed files prints = let (lines, at, is) = then_ok listed in (
     (λ done. tt),
     (λ refuted. ((path.now, (lines, at, (is.lexicon, is.found, is.are, some_shown is.found (sym is.status ∙ refuted))), (string_bytes answer.text, prints)), subst (FilesAfter before.gives after.gives) is.files files)),
   )
   means (question.Cut path dir rewrite None) answer cuts files prints =
-      let (of, (answers, given, gathers, is), (status, text, (made, are, same))) = then_ok cuts in
-      let table = table_written path.now dir.now made of.cut _ answer.files are same is.files_are is.read files in (
+      let (of, cut, (status, text, (made, are, same))) = then_ok cuts in
+      let table = table_written path.now dir.now made (map file_view of.cut.files.items) answer.files are same (of.table, cut.2) files in (
         (λ done. (table, tt)),
-        (λ refuted. (
-          (table, inl (of, (answers, given, gathers, is), unknown_left (has_unknown_opcode (map faulty_line_view of.cut.left_out.items)) (sym status ∙ refuted))),
-          table,
-        )),
+        (λ refuted. ((table, inl (of, cut, unknown_left (has_unknown_opcode (map faulty_line_view of.cut.left_out.items)) (sym status ∙ refuted))), table)),
       )
   means (question.Cut path dir rewrite (Some word)) answer cuts files prints =
       let (alphabet, spelled, after_alphabet) = then_ok cuts in
-      let (of, (answers, given, gathers, is), after_cut) = then_ok after_alphabet in
-      let (acting, act, (status, text, (made, are, same))) = then_ok after_cut in
-      let table = table_written path.now dir.now made of.cut _ answer.files are same is.files_are is.read files in (
-        (λ done. (table, (alphabet, spelled, (of, (answers, given, gathers, is), (acting, act, none_acts (status_of_cut of.cut) acting (sym status ∙ done)))))),
+      let (of, cut, after_cut) = then_ok after_alphabet in
+      let (acting, act, after_acting) = then_ok after_cut in
+      let (texts, marked, (status, text, (made, are, same))) = then_ok after_acting in
+      let table = table_written path.now dir.now made texts answer.files are same marked.1 files in (
+        (λ done. (table, (alphabet, spelled, (of, cut, (acting, act, none_acts (status_of_cut of.cut) acting (sym status ∙ done)))))),
         (λ refuted. (
           (
             table,
             elim (some_act (status_of_cut of.cut) acting (sym status ∙ refuted)) [
-              | inl unknown ↦ inl (of, (answers, given, gathers, is), unknown_left (has_unknown_opcode (map faulty_line_view of.cut.left_out.items)) unknown)
-              | inr some ↦ inr (alphabet, spelled, (of, (answers, given, gathers, is), (acting, act, some)))
+              | inl unknown ↦ inl (of, cut, unknown_left (has_unknown_opcode (map faulty_line_view of.cut.left_out.items)) unknown)
+              | inr some ↦ inr (alphabet, spelled, (of, cut, (acting, act, some)))
             ],
           ),
           table,
@@ -494,7 +565,10 @@ module _ (before after : World) (same_file : MayBeSame) where
       let (r, right_read, after_right) = then_ok after_left in
       let (lines, at, is) = then_ok after_right in
       none_changes before after answer written (comparison_has_none (table_of lines) (shown_lines options.lines lines) l r answer is) writes
-  keeps (question.Survey paths brief) (Ok answer) status (parts, named, are, says) (written, writes, e) = none_changes before after answer written says.2 writes
+  keeps (question.Survey paths brief None) (Ok answer) status (parts, named, are, says) (written, writes, e) = none_changes before after answer written says.2 writes
+  keeps (question.Survey paths brief (Some word)) (Ok answer) status surveyed (written, writes, e) =
+      let (alphabet, spelled, (parts, named, are, says)) = then_ok surveyed in
+      none_changes before after answer written says.2 writes
   keeps (question.Slips path columns) (Ok answer) status listed (written, writes, e) =
       let (lines, at, is) = then_ok listed in
       none_changes before after answer written is.files writes

@@ -43,7 +43,7 @@ use Rattle.brl_answers.specs.Making.{AreNew, AreWritten, IsNoneOf}
 use Rattle.brl_answers.specs.Status.{code_of, status_of}
 use Rattle.brl_tool.specs.Slipping.{HasSlips, ListsSlips}
 use Rattle.brl_tool.specs.Streams.{TranslatesByFile}
-use Rattle.brl_tool.specs.Surveying.{IsSuspectAt, SurveysByFiles, no_verdict}
+use Rattle.brl_tool.specs.Surveying.{IsSuspectAt, Surveys, no_verdict}
 use Rattle.brl_tool.specs.Suspects.{has_unknown_opcode}
 use Rattle.brl_table.specs.Survey.{faulty_line_view}
 use Rattle.brl_acting.specs.WholeTable.{ActingView}
@@ -77,7 +77,7 @@ use Rattle.brl_without.specs.Tables.{IsUnambiguousWithout}
 -- the answer of a command, with the paths, texts, options and limit that it has
 abbrev pub Answers : Question → FileAnswers → MayBeSame → Result Answer RunFault → Type 0
 Answers (question.Clash path left right options) gives same outcome = ComparesByWords options gives path.now left.now right.now outcome
-Answers (question.Survey paths brief) gives same outcome = SurveysByFiles brief gives (map (λ path. path.now) paths.items) outcome
+Answers (question.Survey paths brief only) gives same outcome = Surveys brief only gives (map (λ path. path.now) paths.items) outcome
 Answers (question.Trace path text options) gives same outcome = TracesByWord options gives path.now text.now outcome
 Answers (question.Rules path numbers) gives same outcome = ListsByFile gives path.now numbers.items outcome
 Answers (question.Unused path limit option) gives same outcome = ListsUnused option gives path.now limit outcome
@@ -210,17 +210,12 @@ WritesTable before after path dir =
     (files : List NewFile) × AreNew before.gives files × AreWritten files before.gives after.gives
     × IsRead (map new_file_view files) (written_root dir path)
 
--- the text of a survey was written, which finds that the table at some path is suspect: it has a
--- line whose opcode is none of liblouis', or no line that defines a character
-abbrev pub ReportsSuspect : World → World → Type 0
-ReportsSuspect before after = (path : List ℕ) × IsSuspectAt before.gives path × ((text : List ℕ) × Prints before after (text ++ no_verdict))
-
 -- this holds of the lines of the table at the path that can act on texts of the characters that a
 -- word spells, where it was cut for a folder
 abbrev pub HoldsOfActing : FileAnswers → List ℕ → List ℕ → Bool → Bor (List ℕ) → (List ActingView → Type 0) → Type 0
 HoldsOfActing gives path dir rewrite word holds =
     (alphabet : AlphabetView) × (spelled_by (alphabets.Only word) ≡ Some alphabet)
-    × ((of : CutTable) × IsCut rewrite gives path dir of × ((acting : List ActingView) × AreActing gives.folders path dir alphabet of acting × holds acting))
+    × ((of : CutTable) × IsCut rewrite gives path dir of × ((acting : List ActingView) × AreActing gives.folders path alphabet of acting × holds acting))
 
 -- where characters are given, no line can act, or some line can
 abbrev pub NoneActs : Option (Bor (List ℕ)) → FileAnswers → List ℕ → List ℕ → Bool → Type 0
@@ -236,6 +231,17 @@ SomeAct (Some word) gives path dir rewrite = HoldsOfActing gives path dir rewrit
 abbrev pub HasUnknown : FileAnswers → List ℕ → List ℕ → Bool → Type 0
 HasUnknown gives path dir rewrite =
     (of : CutTable) × IsCut rewrite gives path dir of × (has_unknown_opcode (map faulty_line_view of.cut.left_out.items) ≡ true)
+
+-- a survey of the table at a path finds that it is suspect: it has a line whose opcode is none of
+-- liblouis', or no line that defines a character; where characters are given, its cut has such a
+-- line, or a line can act
+abbrev pub SurveysSuspect : Option (Bor (List ℕ)) → FileAnswers → List ℕ → Type 0
+SurveysSuspect None gives path = IsSuspectAt gives path
+SurveysSuspect (Some word) gives path = HasUnknown gives path [] true ⊎ SomeAct (Some word) gives path [] true
+
+-- the text of a survey was written, which finds that the table at some path is suspect
+abbrev pub ReportsSuspect : Option (Bor (List ℕ)) → World → World → Type 0
+ReportsSuspect only before after = (path : List ℕ) × SurveysSuspect only before.gives path × ((text : List ℕ) × Prints before after (text ++ no_verdict))
 
 -- the table at the path was cut, and written as a table; a line that is left out has an unknown
 -- opcode, or a line can act
@@ -260,6 +266,7 @@ MeansDone (question.Clashes path limit first option pairs) before after =
     ReportsNoOther before after path.now option pairs
 MeansDone (question.Unused path limit option) before after = ReportsNoUnused before after path.now option
 MeansDone (question.Cut path dir rewrite only) before after = WritesTable before after path.now dir.now × NoneActs only before.gives path.now dir.now rewrite
+MeansDone (question.Survey paths brief only) before after = All (λ path. NoneActs only before.gives path [] true) (map (λ path. path.now) paths.items)
 MeansDone asked before after = Unit {0}
 
 -- what it means that something was refuted; a trace, a list of rules and an explanation never say
@@ -271,7 +278,7 @@ MeansRefuted (question.Search path out limit accept option) before after = Repor
 MeansRefuted (question.Clashes path limit first option pairs) before after =
     ReportsOther before after path.now option pairs
 MeansRefuted (question.Unused path limit option) before after = ReportsUnused before after
-MeansRefuted (question.Survey paths brief) before after = ReportsSuspect before after
+MeansRefuted (question.Survey paths brief only) before after = ReportsSuspect only before after
 MeansRefuted (question.Slips path columns) before after = ReportsSlips before after
 MeansRefuted (question.Cut path dir rewrite only) before after = CutsRefuted before after path.now dir.now rewrite only
 MeansRefuted asked before after = ⊥
@@ -357,7 +364,7 @@ abbrev pub ReportsOne : Looked → World → Type 0
 ReportsOne looked after =
     (folders : Vec (String Global)) × (ReportsClash (looked folders) after ⊎ ReportsRefusal (looked folders) after
     ⊎ ReportsClashes (looked folders) after ⊎ ReportsUnused (looked folders) after
-    ⊎ ReportsSuspect (looked folders) after ⊎ ReportsCut (looked folders) after ⊎ ReportsSlips (looked folders) after)
+    ⊎ ((only : Option (Bor (List ℕ))) × ReportsSuspect only (looked folders) after) ⊎ ReportsCut (looked folders) after ⊎ ReportsSlips (looked folders) after)
 
 -- what is written to the file at a path: pairs of rules of a table; or the text that the file had,
 -- without its stale lines

@@ -2,63 +2,50 @@
 ghost use Rattle.std.specs.Prelude.{◌≡◌, ◌++◌, ◌≤◌, IfErr, IfOk, OnOk, length, map, string_bytes};
 ghost use Rattle.brl_acting.specs.WholeTable.{acting_view};
 ghost use Rattle.brl_lines.specs.Views.{location_view};
-ghost use Rattle.brl_tool.specs.Acting.{AreActing, AreActingOn, AreCharacters, AreNone, IsNoActing, IsNoWhole, acting_text as text_by, count_of as count_of_by, has_opcode as has_opcode_by, count_text, is_first as is_first_by, opcode_text, place_text, text_at};
+ghost use Rattle.brl_tool.specs.Acting.{AreActing, AreActingOn, IsNoActing, IsNoWhole, acting_line as acting_line_of, acting_text as text_by, count_of as count_of_by, has_opcode as has_opcode_by, count_text, idle_line as idle_line_of, is_first as is_first_by, last_line, left_out_places as left_out_by, line_word as line_word_of, opcode_text, place_text, text_at, with_acting as with_acting_by};
 ghost use Rattle.brl_answers.specs.Answers.{EndsAs};
 ghost use Rattle.brl_answers.specs.Status.{of_cut_fault};
 ghost use Rattle.brl_answers.specs.declared.run_fault.RunFault.TheVariants.{NotDefined};
 ghost use Rattle.brl_clashes.specs.Kinds.{kept};
-ghost use Rattle.brl_without.specs.Alphabet.{HasAll, IsLacking, alphabet_view, left_out_by};
+ghost use Rattle.brl_without.specs.Alphabet.{HasAll, IsLacking, alphabet_view, left_out_by as characters_left_out};
 
 use brl_acting::{ActingLine, acting_of_table};
-use brl_answers::RunFault;
+use brl_answers::{RunFault, with_alphabet_line};
 use brl_clashes::kept_characters;
-use brl_cut::{CutFault, CutTable, load_whole, read_back, written_root};
+use brl_cut::{CutFault, CutTable, load_whole};
 use brl_failure::raise;
 use brl_lines::Location;
 use brl_rules::Table;
 use brl_without::Alphabet;
 use std::alloc::{AllocError, Global};
 
-/// Which lines of the table at a path can act on texts of an alphabet, where it was cut for a
-/// folder, and its files were looked for in these folders too. `NotDefined` where the cut lacks
-/// characters of the alphabet.
+/// Lines of a table that can act on texts of an alphabet.
+#[derive(Clone, Copy)]
+pub struct Judged<'a> {
+    pub alphabet: &'a Alphabet,
+    pub acting: &'a [ActingLine],
+}
+
+/// Which lines of the table at a path can act on texts of an alphabet, where it was cut, and its
+/// files were looked for in these folders too. `NotDefined` where the cut lacks characters of the
+/// alphabet.
 pub fn acting_lines(
     alloc: Global,
     folders: &[String],
     of: &CutTable,
     path: &str,
-    dir: &str,
     alphabet: &Alphabet,
 ) -> Result<Vec<ActingLine>, RunFault>
-    ensures acting { IfOk result (λ acting. AreActing (map string_bytes folders.now) path.now dir.now (alphabet_view alphabet.now) of.now (map acting_view acting.items)) }
-    ensures fault { IfErr result (IsNoActing (map string_bytes folders.now) path.now dir.now (alphabet_view alphabet.now) of.now) }
+    ensures acting { IfOk result (λ acting. AreActing (map string_bytes folders.now) path.now (alphabet_view alphabet.now) of.now (map acting_view acting.items)) }
+    ensures fault { IfErr result (IsNoActing (map string_bytes folders.now) path.now (alphabet_view alphabet.now) of.now) }
 {
-    let characters = characters_of(alloc, of, path, dir, alphabet)?;
+    let characters = kept_of(alloc, &of.table, alphabet)?;
     acting_on(alloc, folders, of, path, characters.as_slice())
-}
-
-/// The characters of an alphabet that the files of a cut define, which are read again.
-fn characters_of(
-    alloc: Global,
-    of: &CutTable,
-    path: &str,
-    dir: &str,
-    alphabet: &Alphabet,
-) -> Result<Vec<char>, RunFault>
-    ensures characters { IfOk result (λ characters. AreCharacters path.now dir.now (alphabet_view alphabet.now) of.now characters.items) }
-    ensures fault { IfErr result (AreNone path.now dir.now (alphabet_view alphabet.now) of.now) }
-{
-    let root = written_root(alloc, dir, path)?;
-    let table = raise(
-        read_back(alloc, of.cut.files.as_slice(), root.as_str()),
-        CutFault::NotRead,
-    )?;
-    kept_of(alloc, &table, alphabet)
 }
 
 /// The characters of a table that are in an alphabet.
 fn kept_of(alloc: Global, table: &Table, alphabet: &Alphabet) -> Result<Vec<char>, RunFault>
-    ensures characters { IfOk result (λ characters. characters.items ≡ kept table.now (left_out_by table.now (alphabet_view alphabet.now))) }
+    ensures characters { IfOk result (λ characters. characters.items ≡ kept table.now (characters_left_out table.now (alphabet_view alphabet.now))) }
     ensures all { OnOk result (HasAll table.now (alphabet_view alphabet.now)) }
     ensures fault { IfErr result (EndsAs NotDefined (IsLacking table.now (alphabet_view alphabet.now))) }
 {
@@ -167,4 +154,85 @@ fn count_of(lines: &[ActingLine], opcode: &str) -> usize
         .iter()
         .filter(|line| opcode == line.opcode.as_str())
         .count()
+}
+
+/// The places of lines that a cut leaves out.
+pub fn left_out_places(alloc: Global, lines: &[ActingLine]) -> Result<Vec<Location>, AllocError>
+    ensures { IfOk result (λ places. map location_view places.items ≡ left_out_by (map acting_view lines.now)) }
+{
+    let mut places = Vec::new(alloc);
+    for line in lines {
+        if !line.kept {
+            places.push(copy_of(alloc, &line.place)?)?;
+        }
+    }
+    Ok(places)
+}
+
+/// A copy of a place.
+fn copy_of(alloc: Global, place: &Location) -> Result<Location, AllocError>
+    ensures { IfOk result (λ copy. location_view copy ≡ location_view place.now) }
+{
+    Ok(Location {
+        file: String::from_str(alloc, place.file.as_str())?,
+        line: place.line,
+    })
+}
+
+/// A report, and in it the alphabet, the lines that can act on texts of it, and at the end that
+/// none can, so that what is decided of a cut holds of a table; or how many can.
+pub fn with_acting(
+    alloc: Global,
+    report: String,
+    judged: Judged<'_>,
+    cut: &str,
+    table: &str,
+) -> Result<String, AllocError>
+    ensures { IfOk result (λ text. string_bytes text ≡
+        with_acting_by (alphabet_view judged.entry.alphabet.now) (map acting_view judged.entry.acting.now) cut.now table.now (string_bytes report)) }
+{
+    let mut text = with_alphabet_line(alloc, report, judged.alphabet)?;
+    text.push_str(acting_text(alloc, judged.acting)?.as_str())?;
+    push_last(&mut text, cut, table, judged.acting.len())?;
+    Ok(text)
+}
+
+/// Appends the line that says that no line can act, so that verdicts on texts of the alphabet hold
+/// of the whole table; or how many can.
+fn push_last(text: &mut String, cut: &str, table: &str, acting: usize) -> Result<(), AllocError>
+    ensures { OnOk result (string_bytes text.new ≡ string_bytes text.old ++ last_line cut.now table.now acting) }
+{
+    if acting > 0 {
+        push_acting(text, acting)
+    } else {
+        push_idle(text, cut, table)
+    }
+}
+
+/// Appends the line that says that no line can act.
+fn push_idle(text: &mut String, cut: &str, table: &str) -> Result<(), AllocError>
+    ensures { OnOk result (string_bytes text.new ≡ string_bytes text.old ++ idle_line_of cut.now table.now) }
+{
+    text.push_str("no line can act on these texts: what --only decides of ")?;
+    text.push_str(cut)?;
+    text.push_str(" holds of ")?;
+    text.push_str(table)?;
+    text.push_str("\n")?;
+    Ok(())
+}
+
+/// Appends the line that says how many lines can act.
+fn push_acting(text: &mut String, acting: usize) -> Result<(), AllocError>
+    ensures { OnOk result (string_bytes text.new ≡ string_bytes text.old ++ acting_line_of acting) }
+{
+    write!(text, "{acting}")?;
+    text.push_str(line_word(acting))?;
+    text.push_str(" can act on these texts\n")
+}
+
+/// The word for this many lines, after a blank.
+fn line_word(lines: usize) -> &'static str
+    ensures { result.now ≡ line_word_of lines }
+{
+    if lines == 1 { " line" } else { " lines" }
 }

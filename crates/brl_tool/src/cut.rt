@@ -1,17 +1,16 @@
 //! `brl cut`: the lines of a table that are read, as a table of its own.
-ghost use Rattle.std.specs.Prelude.{◌≡◌, ◌++◌, IfOk, OnOk, map, string_bytes};
+ghost use Rattle.std.specs.Prelude.{◌≡◌, IfOk, map, string_bytes};
 ghost use Rattle.brl_acting.specs.WholeTable.{acting_view};
 ghost use Rattle.brl_cut.specs.Files.{file_view};
-ghost use Rattle.brl_tool.specs.Cutting.{Cuts, CutsAlone, CutsOver, IsActingAnswer, IsCutAnswer, IsTextOfCut, acting_line as acting_line_of, idle_line as idle_line_of, line_word as line_word_of, new_file_view, over_line, status_of_cut, status_over};
+ghost use Rattle.brl_tool.specs.Cutting.{AnswersOver, Cuts, CutsAlone, CutsOver, IsActingAnswer, IsCutAnswer, IsTextOfCut, JudgesCut, new_file_view, status_of_cut, status_over};
 ghost use Rattle.brl_without.specs.Alphabet.{alphabet_view};
 
-use crate::acting::{acting_lines, acting_text};
+use crate::acting::{Judged, acting_lines, left_out_places, with_acting};
 use crate::alphabet::alphabet_of;
 use crate::suspects::has_unknown_opcode;
-use brl_acting::ActingLine;
-use brl_answers::{Answer, Files, NewFile, NewFiles, RunFault, Status, with_alphabet_line};
+use brl_answers::{Answer, Files, NewFile, NewFiles, RunFault, Status};
 use brl_cli::AlphabetOption;
-use brl_cut::{Cut, cut_table, written_root};
+use brl_cut::{Cut, CutTable, cut_table, mark_lines, written_root};
 use brl_lines::GatheredFile;
 use brl_report::report_of_cut;
 use brl_without::Alphabet;
@@ -72,15 +71,40 @@ fn cut_over<F: Files>(
 {
     let alphabet = alphabet_of(alloc, AlphabetOption::Only(word))?;
     let of = cut_table(alloc, files, asked.table, asked.dir, asked.rewrite)?;
-    let acting = acting_lines(
-        alloc,
-        files.folders(),
-        &of,
-        asked.table,
-        asked.dir,
-        &alphabet,
-    )?;
-    Ok(acting_answer(alloc, &of.cut, asked, &alphabet, acting.as_slice())?)
+    judge_cut(alloc, files.folders(), &of, asked, &alphabet)
+}
+
+/// The answer with a cut, once its lines are judged on texts of an alphabet, where its files were
+/// looked for in these folders too.
+fn judge_cut(
+    alloc: Global,
+    folders: &[String],
+    of: &CutTable,
+    asked: CutRequest<'_>,
+    alphabet: &Alphabet,
+) -> Result<Answer, RunFault>
+    ensures { JudgesCut asked.entry.rewrite (map string_bytes folders.now) asked.entry.table.now asked.entry.dir.now (alphabet_view alphabet.now) of.now result }
+{
+    let acting = acting_lines(alloc, folders, of, asked.table, alphabet)?;
+    let judged = Judged {
+        alphabet,
+        acting: acting.as_slice(),
+    };
+    answer_over(alloc, of, asked, judged)
+}
+
+/// The answer with a cut whose lines are judged so. Left-out lines that can act are marked.
+fn answer_over(
+    alloc: Global,
+    of: &CutTable,
+    asked: CutRequest<'_>,
+    judged: Judged<'_>,
+) -> Result<Answer, RunFault>
+    ensures { AnswersOver asked.entry.rewrite asked.entry.table.now asked.entry.dir.now (alphabet_view judged.entry.alphabet.now) of.now (map acting_view judged.entry.acting.now) result }
+{
+    let places = left_out_places(alloc, judged.acting)?;
+    let marked = mark_lines(alloc, of, asked.table, asked.dir, places.as_slice())?;
+    Ok(acting_answer(alloc, &of.cut, asked, judged, marked.as_slice())?)
 }
 
 /// The answer with a cut.
@@ -96,24 +120,22 @@ fn answer_of(alloc: Global, cut: &Cut, rewrite: bool) -> Result<Answer, AllocErr
     })
 }
 
-/// The answer with a cut, and with these lines, which can act.
+/// The answer with a cut, the lines of it that can act, and its files, where these are marked.
 fn acting_answer(
     alloc: Global,
     cut: &Cut,
     asked: CutRequest<'_>,
-    alphabet: &Alphabet,
-    acting: &[ActingLine],
+    judged: Judged<'_>,
+    marked: &[GatheredFile],
 ) -> Result<Answer, AllocError>
-    ensures { IfOk result (IsActingAnswer asked.entry.rewrite asked.entry.table.now asked.entry.dir.now (alphabet_view alphabet.now) cut.now (map acting_view acting.now)) }
+    ensures { IfOk result (IsActingAnswer asked.entry.rewrite asked.entry.table.now asked.entry.dir.now (alphabet_view judged.entry.alphabet.now) cut.now (map acting_view judged.entry.acting.now) (map file_view marked.now)) }
 {
-    let answer = answer_of(alloc, cut, asked.rewrite)?;
-    let mut text = with_alphabet_line(alloc, answer.text, alphabet)?;
-    text.push_str(acting_text(alloc, acting)?.as_str())?;
-    push_last(alloc, &mut text, asked, acting.len())?;
+    let text = text_of_cut(alloc, cut, asked.rewrite)?;
+    let root = written_root(alloc, asked.dir, asked.table)?;
     Ok(Answer {
-        text,
-        status: status_with(answer.status, acting.len()),
-        files: answer.files,
+        text: with_acting(alloc, text, judged, root.as_str(), asked.table)?,
+        status: status_with(status_of(cut), judged.acting.len()),
+        files: NewFiles::AllNew(new_files(alloc, marked)?),
     })
 }
 
@@ -125,51 +147,6 @@ fn status_with(status: Status, acting: usize) -> Status
         0 => status,
         _ => Status::Refuted,
     }
-}
-
-/// Appends the line that says that no line can act, so that verdicts on texts of the alphabet hold
-/// of the whole table; or how many can.
-fn push_last(
-    alloc: Global,
-    text: &mut String,
-    asked: CutRequest<'_>,
-    acting: usize,
-) -> Result<(), AllocError>
-    ensures { OnOk result (string_bytes text.new ≡ string_bytes text.old ++ over_line asked.entry.table.now asked.entry.dir.now acting) }
-{
-    if acting > 0 {
-        return push_acting(text, acting);
-    }
-    let root = written_root(alloc, asked.dir, asked.table)?;
-    push_idle(text, root.as_str(), asked.table)
-}
-
-/// Appends the line that says that no line can act.
-fn push_idle(text: &mut String, root: &str, table: &str) -> Result<(), AllocError>
-    ensures { OnOk result (string_bytes text.new ≡ string_bytes text.old ++ idle_line_of root.now table.now) }
-{
-    text.push_str("no line can act on these texts: what --only decides of ")?;
-    text.push_str(root)?;
-    text.push_str(" holds of ")?;
-    text.push_str(table)?;
-    text.push_str("\n")?;
-    Ok(())
-}
-
-/// Appends the line that says how many lines can act.
-fn push_acting(text: &mut String, acting: usize) -> Result<(), AllocError>
-    ensures { OnOk result (string_bytes text.new ≡ string_bytes text.old ++ acting_line_of acting) }
-{
-    write!(text, "{acting}")?;
-    text.push_str(line_word(acting))?;
-    text.push_str(" can act on these texts\n")
-}
-
-/// The word for this many lines, after a blank.
-fn line_word(lines: usize) -> &'static str
-    ensures { result.now ≡ line_word_of lines }
-{
-    if lines == 1 { " line" } else { " lines" }
 }
 
 /// The status of a cut.

@@ -55,7 +55,7 @@ pub use program::run;
 pub use rules::list_rules_by_file;
 pub use search::{SearchedFiles, search_by_words};
 pub use slips::list_slips_by_file;
-pub use survey::survey_by_files;
+pub use survey::{SurveyRequest, survey_by_words};
 pub use trace::trace_by_word;
 pub use translate::{Translation, translate_by_file};
 pub use unused::list_unused_by_words;

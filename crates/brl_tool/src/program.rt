@@ -11,7 +11,7 @@ use crate::explain::explain_line;
 use crate::rules::list_rules_by_file;
 use crate::search::{SearchedFiles, search_by_words};
 use crate::slips::list_slips_by_file;
-use crate::survey::survey_by_files;
+use crate::survey::{SurveyRequest, survey_by_words};
 use crate::trace::trace_by_word;
 use crate::translate::{Translation, translate_by_file};
 use crate::unused::list_unused_by_words;
@@ -24,12 +24,12 @@ use std::alloc::Global;
 use std::io::Write;
 
 /// Does what the words ask for, and answers the exit status: 0 where the work was done, 1 where two
-/// texts clash, a certificate is refused, no text uses some rule, a line of a table that is cut can
-/// act on the texts that are asked for, or a table that is surveyed or cut has an opcode that is
-/// none of liblouis' (one that is surveyed also where no line defines a character), 2 where the
-/// words, a file, the table, a text, the input or the output had a fault, and 3 where memory ran
-/// out, a search decided nothing, or a table is too wide for a certificate of version 1. The first
-/// of the words is the program's name.
+/// texts clash, a certificate is refused, no text uses some rule, a line of a table that is cut or
+/// surveyed can act on the texts that are asked for, or a table that is surveyed or cut has an
+/// opcode that is none of liblouis' (one that is surveyed also where no line defines a character),
+/// 2 where the words, a file, the table, a text, the input or the output had a fault, and 3 where
+/// memory ran out, a search decided nothing, or a table is too wide for a certificate of version 1.
+/// The first of the words is the program's name.
 ///
 /// Standard output gets the translation, what was found of two texts, of a certificate, by a search
 /// or by a survey, the steps of a text, the rules of a table or those of them that no text uses,
@@ -184,8 +184,17 @@ fn answer<F: Files, E: Write + Progress>(
             right,
             options,
         } => compare_by_words(alloc, files, table, left, right, options),
-        Question::Survey { tables, brief } => {
-            survey_by_files(alloc, files, tables.as_slice(), brief, err)
+        Question::Survey {
+            tables,
+            brief,
+            only,
+        } => {
+            let asked = SurveyRequest {
+                tables: tables.as_slice(),
+                brief,
+                only,
+            };
+            survey_by_words(alloc, files, asked, err)
         }
         Question::Trace {
             table,

@@ -5,4 +5,4 @@ use Rattle.brl_acting.specs.Words.{parts_view}
 use Rattle.brl_acting.proofs.readings.cells_of.Given as goal
 
 abbrev pub invariant-loop-parts : goal.invariant-loop-parts
-invariant-loop-parts l = l.cells.items ≡ flat_map (cells_of (set_view l.near) l.facts) (map parts_view (take l.parts-index l.lines))
+invariant-loop-parts l = l.cells.items ≡ flat_map (cells_of (set_view l.given.near.now) l.given.facts l.given.signs.now) (map parts_view (take l.parts-index l.lines))

@@ -3,7 +3,7 @@ use brl_acting::{ActingLine, acting_of_table};
 use brl_cells::{Cell, Cells, DotsFault, read_dots, to_ascii, to_unicode, write_dots};
 use brl_cut::{
     Cut, CutFault, CutTable, WithoutDictionaries, cut_table, load_whole, load_without_dictionaries,
-    read_back, written_root,
+    mark_lines, written_root,
 };
 use brl_failure::Failure;
 use brl_forward::{Clash, ConfirmFault, ForwardFault, Traced, confirm, trace, translate};
@@ -247,15 +247,30 @@ fn has_a_cut(alloc: Global) -> Result<bool, Fail> {
     Ok(is_gathered(&gathered?) && is_cut(&of.cut) && can_act(alloc, &of)?)
 }
 
-/// Whether two lines of a table can act on texts of `a`, which its cut defines.
+/// Whether two lines of a table can act on texts of `a`, which its cut defines, and are marked.
 fn can_act(alloc: Global, of: &CutTable) -> Result<bool, Fail> {
-    let root = written_root(alloc, "o", "t.ctb")?;
-    let table = read_back(alloc, of.cut.files.as_slice(), root.as_str())?;
     let whole = load_whole(alloc, &[], &of.gathered, "t.ctb")?;
     let left_out = of.cut.left_out.as_slice();
     let acting: Vec<ActingLine> = acting_of_table(alloc, &whole, &of.gathered, left_out, &['a'])?;
-    Ok(table.char_count() == 1 && acting.len() == 2)
+    let mut places = Vec::new(alloc);
+    for line in acting {
+        places.push(line.place)?;
+    }
+    let marked = mark_lines(alloc, of, "t.ctb", "o", places.as_slice())?;
+    let root = written_root(alloc, "o", "t.ctb")?;
+    Ok(
+        of.table.char_count() == 1
+            && marked.len() == 1
+            && marked[0].path.as_str() == root.as_str()
+            && marked[0].bytes.as_slice() == MARKED,
+    )
 }
+
+/// The file of a cut whose two lines that are left out can act.
+const MARKED: &[u8] = b"letter a 1
+# can act: # L1 NotFound u: include u
+# can act: # B1 OutsideProfile pass2: pass2 @1 2
+";
 
 /// Whether a table without its dictionary has one character, `a`.
 fn is_without_dictionary(alloc: Global, table: &WithoutDictionaries) -> Result<bool, Fail> {

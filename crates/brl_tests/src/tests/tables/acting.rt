@@ -231,6 +231,17 @@ uplow Aa 1; begcapsword 6-6; endcapsword 6-3; capsign 6; prfword aa 3; begword a
 uplow Aa 1; begcapsword 6-6; endcapsword 6-3; capsign 6; prfword aa 3; begword aa 3|A|5
 uplow Aa 1; prfword aa 3|A|
 letter a 1; nofor always a 1; noback word aa 3|a|
+uplow Aa 1; uplow Bb 12; contraction ab|ab|
+uplow Aa 1; uplow Bb 12; contraction ab|Ab|3
+uplow Aa 1; uplow Bb 12; contraction ab|A|
+uplow Aa 1; contraction a|a|
+uplow Aa 1; contraction a|A|2
+letter a 1; always a 2; contraction a|a|3
+letter a 1; contraction a; always a 2|a|
+letter a 1; nocontractsign 4; - letsign 56; contraction a 7; - pass2 @4 @3; - pass2 @56 @3; - pass2 @7 @3|a|3,5,6
+letter a 1; nocontractsign 4; - noletsign a; - letsign 56; - pass2 @4 @3; - pass2 @56 @3|a|
+letter a 1; letter b 12; nocontractsign 4; contraction b; - pass2 @4 @3|a|
+letter a 1; letter b 12; nocontractsign 4; contraction b; - pass2 @4 @3|b|5
 ";
 
 #[test]
