@@ -257,7 +257,7 @@ def expected(alphabet: set[str], is_rewriting: bool) -> tuple[list[str], int, li
 
 def from_acting_on(text: str) -> list[str]:
     """The lines of an answer after the one that names the alphabet."""
-    lines = text.splitlines()
+    lines = text.removesuffix("\n").split("\n")
     at = next((place for place, it in enumerate(lines) if it.startswith("only: ")), len(lines))
     return lines[at + 1 :]
 
