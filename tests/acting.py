@@ -64,7 +64,7 @@ LEFT_OUT = [
     plain_acting.CAPITALS, plain_acting.NUMBERS, plain_acting.NUMBER_LISTS, plain_acting.MODES, plain_acting.SEQUENCES, plain_acting.BLOCKS,
     plain_acting.CLASS_LINES, plain_acting.TEXT_TESTS, plain_acting.CELL_TESTS, *([it] for it in plain_acting.OTHERS),
 ]  # fmt: skip
-KEPT = [plain_acting.DEFINITIONS, plain_acting.PLACED, ["always"], plain_acting.NUMBER_LISTS, ["begcapsword"], ["begnum", "midnum", "endnum"]]
+KEPT = [plain_acting.DEFINITIONS, [*plain_acting.PLACED, "always"], plain_acting.NUMBER_LISTS, ["begcapsword"], ["begnum", "midnum", "endnum"]]
 
 
 # ---- Tables
