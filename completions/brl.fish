@@ -58,7 +58,7 @@ complete -c brl -n '__brl_is clash trace' -l escapes -d 'Read texts as they are 
 complete -c brl -n '__brl_is clash trace' -l lines -d 'Show the lines of the table by which each step is made'
 complete -c brl -n '__brl_is survey' -l brief -d 'Leave the list of faults out'
 complete -c brl -n '__brl_is survey cut' -l only -x -d 'Characters of the texts on which lines may act'
-complete -c brl -n '__brl_is cut' -l rewrite -d 'Also read three more forms of lines, as they are rewritten'
+complete -c brl -n '__brl_is cut' -l rewrite -d 'Also read four more forms of lines, as they are rewritten'
 complete -c brl -n '__brl_is clashes' -l first -x -d 'How many lines of each section are shown'
 complete -c brl -n '__brl_is clashes' -l accept -r -F -d 'Leave the pairs of rules out that this file names'
 complete -c brl -n '__brl_is search check' -l accept -r -F -d 'Find no clash in what this file names'

@@ -1,9 +1,9 @@
 -- Tests of lists of borrowed words, and of their pairs with characters.
-use Rattle.std.proofs.Common.{◌≡◌, ◌∙◌, ◌||◌, ◌+◌, ◌<◌, ◌++◌, Bool, List, [], ◌∷◌, ℕ, ap, get_or, length, map, refl, sym, take}
+use Rattle.std.proofs.Common.{◌≡◌, ◌∙◌, ◌||◌, ◌+◌, ◌<◌, ◌++◌, Bool, List, [], ◌∷◌, Some, None, ℕ, ap, cond, get_or, length, map, nat_lt, not, refl, sym, take}
 use Rattle.std.specs.Borrow.{Bor}
-use Rattle.std.specs.List.{list_any}
+use Rattle.std.specs.List.{list_any, position, prefix_len}
 use Rattle.std.specs.Str.{bytes_eq}
-use Rattle.std.proofs.lemmas.List.{map-append, take_more}
+use Rattle.std.proofs.lemmas.List.{length-map, map-append, take_more}
 use Rattle.brl_rules.proofs.Facts.{or-assoc, or-false}
 use Rattle.brl_acting.specs.Classes.{is_name_of}
 use Rattle.brl_acting.specs.Sets.{pair_views}
@@ -11,6 +11,16 @@ use Rattle.brl_acting.specs.Sets.{pair_views}
 pub list_any-map : {X Y : Type 0} (p : X → Bool) (h : Y → X) (ys : List Y) → list_any p (map h ys) ≡ list_any (λ y. p (h y)) ys
 list_any-map p h [] = refl
 list_any-map p h (y ∷ ys) = ap (λ b. p (h y) || b) (list_any-map p h ys)
+
+-- the first item that passes a test, of a list and of what it comes of
+prefix-map : {X Y : Type 0} (p : X → Bool) (h : Y → X) (ys : List Y) → prefix_len p (map h ys) ≡ prefix_len (λ y. p (h y)) ys
+prefix-map p h [] = refl
+prefix-map p h (y ∷ ys) = ap (λ n. cond (p (h y)) (1 + n) 0) (prefix-map p h ys)
+
+pub position-map : {X Y : Type 0} (p : X → Bool) (h : Y → X) (ys : List Y) → position p (map h ys) ≡ position (λ y. p (h y)) ys
+position-map p h ys = λ j.
+    let first = prefix-map (λ x. not (p x)) h ys in
+    cond (nat_lt (first j) (length-map ys h j)) (Some (first j)) None
 
 -- the names of pairs, and of one more
 name_more : (xs : List (Bor (List ℕ) × ℕ)) (y : Bor (List ℕ) × ℕ) (word : List ℕ)

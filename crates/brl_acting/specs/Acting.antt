@@ -80,7 +80,7 @@ acts_by known parts Digits = known.facts.has_digit
 acts_by known parts DigitList = list_acts known parts.words
 acts_by known parts Mode = mode_acts known parts.words
 acts_by known parts Sequence = known.facts.has_mark
-acts_by known parts Letsign = known.facts.has_letter
+acts_by known parts Letsign = known.facts.has_letter && not (is_some known.read.letsign)
 
 -- after `nofor` only a definition acts
 abbrev pub is_defining : Form → Bool
@@ -104,11 +104,26 @@ abbrev pub is_same_small : ℕ → List (List ℕ) → List ℕ → KeptRule →
 is_same_small place words small rule =
     bytes_eq rule.opcode (word_at words 0) && bytes_eq rule.chars small && (nat_lt rule.place place || bytes_eq rule.dots (word_at words 2))
 
--- a rule of one character; a contraction is read as a rule for a place
+-- `letsign` may stand before a character, where it is rewritten
+abbrev pub gets_sign : Known → ℕ → Bool
+gets_sign known c = is_some known.read.letsign && known.classes.letters c && not (known.classes.noletsigns c)
+
+-- a rule of one character with `sufword` or `prfword` before the line with `letsign`: brl uses it
+-- for the letter alone, and doesn't write the sign
+abbrev pub is_before_sign : Known → ℕ → Bool
+is_before_sign known place = option_map_or (nat_lt place) known.read.letsign false
+
+abbrev pub loses_sign : Known → ℕ → List ℕ → ℕ → Bool
+loses_sign known place word c = is_one_of (codes "sufword" ∷ codes "prfword" ∷ []) word && is_before_sign known place && gets_sign known c
+
+-- a rule of one character that an `always` rule is before; a contraction is read as a rule for a
+-- place
+abbrev pub comes_late : Known → ℕ → List ℕ → ℕ → Bool
+comes_late known place word c = (is_placed word || bytes_eq word (codes "contraction")) && list_any (is_always_before place c) known.read.rules
+
+-- a rule of one character
 abbrev pub one_acts : Known → ℕ → List ℕ → ℕ → Bool
-one_acts known place word c =
-    if (is_placed word || bytes_eq word (codes "contraction")) && list_any (is_always_before place c) known.read.rules then known.reach.alphabet c
-    else known.reach.over c
+one_acts known place word c = if comes_late known place word c || loses_sign known place word c then known.reach.alphabet c else known.reach.over c
 
 -- a rule with capitals is one that no other rule does
 abbrev pub is_capital_rule : Known → ℕ → LineParts → List ℕ → Bool
@@ -121,11 +136,29 @@ is_run_rule word = is_one_of (codes "prfword" ∷ codes "endword" ∷ codes "mid
 abbrev pub is_number_rule : List ℕ → Bool
 is_number_rule word = is_one_of (codes "begnum" ∷ codes "midnum" ∷ codes "endnum" ∷ []) word
 
+-- a rule at which a run of capitals ends or begins, where there are any
+abbrev pub ends_run : Known → List ℕ → Bool
+ends_run known word = is_run_rule word && known.read.keeps_word && known.facts.has_capital
+
+-- A rule gets `letsign` by its characters: the sign may stand before the first one, and the second
+-- one is no letter. A cut rewrites those with `word`, `sufword` and `begword`, and others can't
+-- begin there.
+abbrev pub begins_alone : Known → List ℕ → Bool
+begins_alone known (c ∷ d ∷ others) = gets_sign known c && not (known.classes.letters d)
+begins_alone known others = false
+
+abbrev pub lacks_sign : Known → List ℕ → List ℕ → Bool
+lacks_sign known word chars = is_one_of (codes "always" ∷ codes "prfword" ∷ codes "begmidword" ∷ codes "partword" ∷ []) word && begins_alone known chars
+
+-- a rule of more characters without a capital
+abbrev pub small_act : Known → List ℕ → List ℕ → Bool
+small_act known word chars = (ends_run known word || lacks_sign known word chars) && list_all known.reach.stood chars
+
 -- a rule of more characters
 abbrev pub more_act : Known → ℕ → LineParts → List ℕ → Bool
 more_act known place parts chars =
     if list_any known.classes.capitals chars then list_all known.reach.near chars && is_capital_rule known place parts chars
-    else is_run_rule (word_at parts.words 0) && known.read.keeps_word && known.facts.has_capital && list_all known.reach.stood chars
+    else small_act known (word_at parts.words 0) chars
 
 -- a contraction of more characters: brl uses its `word` rule for capitals of its letters too
 abbrev pub contraction_acts : Known → List ℕ → Bool
@@ -157,6 +190,7 @@ differs_by known place parts DigitList = list_acts known parts.words
 differs_by known place parts Capitals =
     has_opcode (codes "begcapsword") parts && known.facts.has_capital && (known.facts.has_caseless || not known.read.keeps_runs)
 differs_by known place parts Rule = kept_rule_acts known place parts
+differs_by known place parts Letsign = known.facts.has_odd && (known.facts.has_letter || known.facts.has_capital)
 differs_by known place parts other = false
 
 abbrev pub kept_acts : Known → ℕ → LineParts → Option Form → Bool

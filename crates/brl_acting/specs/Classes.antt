@@ -67,6 +67,13 @@ noletsigns_in parts =
 abbrev pub noletsigns_of : List LineParts → List ℕ
 noletsigns_of lines = flat_map noletsigns_in lines
 
+-- the characters beside which it doesn't stand, by a line
+abbrev pub besides_in : LineParts → List ℕ
+besides_in parts = if is_one_of (codes "noletsignbefore" ∷ codes "noletsignafter" ∷ []) (word_at parts.words 0) then unwrap_or (chars_at parts.words 1) [] else []
+
+abbrev pub besides_of : List LineParts → List ℕ
+besides_of lines = flat_map besides_in lines
+
 -- ---- What is known of classes and an alphabet
 
 -- the names of classes, those that have a member for which characters of the alphabet stand, and
@@ -77,18 +84,22 @@ pub record Classes : Type 0 where
   pub capitals : ℕ → Bool
   pub plain_digits : ℕ → Bool
   pub literary_digits : ℕ → Bool
+  pub letters : ℕ → Bool
+  pub noletsigns : ℕ → Bool
 
 -- the pairs whose character is stood for
 abbrev pub met_by : (ℕ → Bool) → List (List ℕ × ℕ) → List (List ℕ × ℕ)
 met_by stood pairs = filter (λ pair. stood pair.1) pairs
 
-abbrev pub classes_by : List (List ℕ × ℕ) → (ℕ → Bool) → Classes
-classes_by pairs stood = record {
+abbrev pub classes_by : List (List ℕ × ℕ) → List ℕ → (ℕ → Bool) → Classes
+classes_by pairs noletsigns stood = record {
   names = is_name_of pairs;
   met = is_name_of (met_by stood pairs);
   capitals = is_in (members (codes "uppercase") pairs);
   plain_digits = is_in (members (codes "digit") pairs);
   literary_digits = is_in (members (codes "litdigit") pairs);
+  letters = is_in (members (codes "letter") pairs);
+  noletsigns = is_in noletsigns;
 }
 
 abbrev pub classes_view : ClassesOfCode → Classes
@@ -98,6 +109,8 @@ classes_view classes = record {
   capitals = set_view classes.capitals;
   plain_digits = set_view classes.plain_digits;
   literary_digits = set_view classes.literary_digits;
+  letters = set_view classes.letters;
+  noletsigns = set_view classes.noletsigns;
 }
 
 -- the alphabet has a character of a class
@@ -112,17 +125,31 @@ has_mark pairs chars = list_any (λ c. not (is_in (members (codes "letter") pair
 abbrev pub has_letter : List (List ℕ × ℕ) → List ℕ → List ℕ → Bool
 has_letter pairs noletsigns chars = list_any (λ c. is_in (members (codes "letter") pairs) c && not (is_in noletsigns c)) chars
 
+-- One beside which, or before which, a rewritten `letsign` isn't exact: a capital, one beside which
+-- the sign doesn't stand, and a character that is neither a letter nor a space or punctuation, or
+-- is both.
+abbrev pub is_apart : List (List ℕ × ℕ) → ℕ → Bool
+is_apart pairs c = is_in (members (codes "space") pairs) c || is_in (members (codes "punctuation") pairs) c
+
+abbrev pub is_odd : List (List ℕ × ℕ) → List ℕ → ℕ → Bool
+is_odd pairs besides c =
+    is_in (members (codes "uppercase") pairs) c || is_in besides c || (if is_in (members (codes "letter") pairs) c then is_apart pairs c else not (is_apart pairs c))
+
+abbrev pub has_odd : List (List ℕ × ℕ) → List ℕ → List ℕ → Bool
+has_odd pairs besides chars = list_any (is_odd pairs besides) chars
+
 -- a letter that is no capital and has none
 abbrev pub has_caseless : List (List ℕ × ℕ) → List (ℕ × ℕ) → List ℕ → Bool
 has_caseless pairs bases chars =
     list_any (λ c. is_in (members (codes "letter") pairs) c
     && not (is_in (members (codes "uppercase") pairs) c || is_in (seconds bases (is_in (members (codes "uppercase") pairs))) c)) chars
 
-abbrev pub facts_by : List (List ℕ × ℕ) → List (ℕ × ℕ) → List ℕ → List ℕ → Facts
-facts_by pairs bases noletsigns chars = record {
+abbrev pub facts_by : List (List ℕ × ℕ) → List (ℕ × ℕ) → List ℕ → List ℕ → List ℕ → Facts
+facts_by pairs bases noletsigns besides chars = record {
   has_capital = has_member (codes "uppercase") pairs chars;
   has_digit = has_member (codes "digit") pairs chars || has_member (codes "litdigit") pairs chars;
   has_mark = has_mark pairs chars;
   has_letter = has_letter pairs noletsigns chars;
+  has_odd = has_odd pairs besides chars;
   has_caseless = has_caseless pairs bases chars;
 }

@@ -3,6 +3,7 @@ pub mod Words
 pub mod Forms
 pub mod Capitals
 pub mod Classes
+pub mod Letters
 pub mod Readings
 pub mod Tests
 pub mod Acting

@@ -1,18 +1,18 @@
 -- What the lines give that brl reads: rules, cells, small letters, and which opcodes there are.
 use Rattle.std.specs.Prelude.{ℕ, ◌&&◌, ◌||◌, Bool, true, false, not, List, [], ◌∷◌, ◌++◌, codes, flat_map, if◌then◌else◌, map, nat_eq, Option, Some, None, Result, Ok, Err}
-use Rattle.std.specs.List.{enumerate_from, find, list_all, list_any}
+use Rattle.std.specs.List.{enumerate_from, find, list_all, list_any, position}
 use Rattle.std.specs.Option.{option_map_or, unwrap_or}
 use Rattle.brl_cells.specs.Dots.{reading}
 use Rattle.brl_cells.specs.declared.fault.DotsFault.{DotsFault}
 use Rattle.brl_table.specs.Items.{parts_of}
 use Rattle.brl_acting.specs.Capitals.{Reach, bases_of, has_opcode, reach_by, reach_view}
-use Rattle.brl_acting.specs.Classes.{Classes, classes_by, classes_of, classes_view, facts_by, noletsigns_of}
+use Rattle.brl_acting.specs.Classes.{Classes, classes_by, besides_of, classes_of, classes_view, facts_by, noletsigns_of}
 use Rattle.brl_acting.specs.Forms.{form_of}
 use Rattle.brl_acting.specs.Sets.{is_in, set_view}
 use Rattle.brl_acting.specs.Words.{LineParts, chars_at, word_at}
 use Rattle.brl_acting.specs.declared.facts.Facts.{Facts}
 use Rattle.brl_acting.specs.declared.form.Form.{Form}
-use Rattle.brl_acting.specs.declared.form.Form.TheVariants.{Defines, Uplow, Rule, Capitals, Digits}
+use Rattle.brl_acting.specs.declared.form.Form.TheVariants.{Defines, Uplow, Rule, Capitals, Digits, Letsign}
 use Rattle.brl_acting.specs.declared.known.Known.{Known as KnownOfCode}
 use Rattle.brl_acting.specs.declared.readings.Readings.{Readings as ReadingsOfCode}
 use Rattle.brl_acting.specs.declared.rules.Rule.{Rule as RuleOfCode}
@@ -72,6 +72,7 @@ dots_place near facts chars (Some Uplow) = place_if (list_any near chars) 2
 dots_place near facts chars (Some Rule) = place_if (list_all near chars) 2
 dots_place near facts chars (Some Capitals) = place_if facts.has_capital 1
 dots_place near facts chars (Some Digits) = place_if facts.has_digit 1
+dots_place near facts chars (Some Letsign) = place_if facts.has_letter 1
 dots_place near facts chars other = None
 
 abbrev pub cells_at : LineParts → Option ℕ → List ℕ
@@ -115,6 +116,14 @@ keeps word lines = list_any (λ parts. parts.kept && has_opcode word parts) line
 abbrev pub keeps_runs : List LineParts → Bool
 keeps_runs lines = keeps (codes "endcapsword") lines && (keeps (codes "capsletter") lines || keeps (codes "capsign") lines)
 
+-- A kept line is one with `letsign`: the cut has made a file of it.
+abbrev pub is_kept_letsign : LineParts → Bool
+is_kept_letsign parts = parts.kept && has_opcode (codes "letsign") parts
+
+-- the place of the first such line
+abbrev pub letsign_of : List LineParts → Option ℕ
+letsign_of lines = position is_kept_letsign lines
+
 pub record Readings : Type 0 where
   pub small : ℕ → ℕ
   pub cells : ℕ → Bool
@@ -122,6 +131,7 @@ pub record Readings : Type 0 where
   pub has_numsign : Bool
   pub keeps_word : Bool
   pub keeps_runs : Bool
+  pub letsign : Option ℕ
 
 abbrev pub readings_by : List LineParts → List (ℕ × ℕ) → (ℕ → Bool) → Facts → Readings
 readings_by lines bases near facts = record {
@@ -131,6 +141,7 @@ readings_by lines bases near facts = record {
   has_numsign = list_any (has_opcode (codes "numsign")) lines;
   keeps_word = keeps (codes "begcapsword") lines;
   keeps_runs = keeps_runs lines;
+  letsign = letsign_of lines;
 }
 
 abbrev pub readings_view : ReadingsOfCode → Readings
@@ -141,6 +152,7 @@ readings_view readings = record {
   has_numsign = readings.has_numsign;
   keeps_word = readings.keeps_word;
   keeps_runs = readings.keeps_runs;
+  letsign = readings.letsign;
 }
 
 -- all that is known of lines and an alphabet
@@ -150,18 +162,20 @@ pub record Known : Type 0 where
   pub facts : Facts
   pub read : Readings
 
--- of lines and these characters, by the classes and the capitals that the lines give, and by facts
-abbrev pub known_from : List LineParts → List (List ℕ × ℕ) → List (ℕ × ℕ) → Facts → List ℕ → Known
-known_from lines pairs bases facts chars =
+-- of lines and these characters, by the classes, the capitals and the letters without `letsign`
+-- that the lines give, and by facts
+abbrev pub known_from : List LineParts → List (List ℕ × ℕ) → List (ℕ × ℕ) → List ℕ → Facts → List ℕ → Known
+known_from lines pairs bases noletsigns facts chars =
     let reach = reach_by bases chars in
-    record { reach = reach; classes = classes_by pairs reach.stood; facts = facts; read = readings_by lines bases reach.near facts }
+    record { reach = reach; classes = classes_by pairs noletsigns reach.stood; facts = facts; read = readings_by lines bases reach.near facts }
 
 -- of lines and these characters
 abbrev pub known_by : List LineParts → List ℕ → Known
 known_by lines chars =
     let pairs = classes_of lines in
     let bases = bases_of lines in
-    known_from lines pairs bases (facts_by pairs bases (noletsigns_of lines) chars) chars
+    let noletsigns = noletsigns_of lines in
+    known_from lines pairs bases noletsigns (facts_by pairs bases noletsigns (besides_of lines) chars) chars
 
 -- of lines and an alphabet, to which the blank belongs
 abbrev pub known_of : List LineParts → List ℕ → Known

@@ -96,6 +96,16 @@ line_at lines place = option_map_or (λ line. acting_line line ∷ []) (slice_ge
 abbrev pub taken_lines : List TableLineView → List ℕ → List ActingView
 taken_lines lines places = flat_map (line_at lines) places
 
+-- Lines that are left out of a file that isn't one of the table's: a cut has made it. Each can act.
+abbrev pub is_in_files : GatheredView → FaultyLineView → Bool
+is_in_files gathered faulty = list_any (λ file. bytes_eq file.0 faulty.fault.file) gathered.files
+
+abbrev pub made_line : FaultyLineView → ActingView
+made_line faulty = record { opcode = faulty.opcode; place = record { file = faulty.fault.file; line = faulty.fault.line }; kept = false }
+
+abbrev pub made_lines : GatheredView → List FaultyLineView → List ActingView
+made_lines gathered left_out = map made_line (filter (λ faulty. not (is_in_files gathered faulty)) left_out)
+
 -- which of these lines can act on texts over an alphabet
 abbrev pub acting_among : List TableLineView → List ℕ → List ActingView
 acting_among lines alphabet = taken_lines lines (acting_lines lines alphabet)
@@ -106,10 +116,11 @@ abbrev pub acting_in : List (List ℕ × ℕ) → List (List ℕ × ℕ) → Lis
 acting_in left_out continued lines alphabet = acting_among (map (table_line left_out continued) lines) alphabet
 
 -- the lines of a whole table that can act on texts over an alphabet, where its cut leaves these
--- out: of all its lines, and of the include lines whose file isn't there
+-- out: of all its lines, and of the include lines whose file isn't there; and lines of a file that
+-- the cut has made
 abbrev pub acting_of_table : List LineView → GatheredView → List FaultyLineView → List ℕ → List ActingView
 acting_of_table whole gathered left_out alphabet =
-    acting_in (map left_out_place left_out) (flat_map continued_places gathered.files) (whole ++ missing_lines gathered.left_out) alphabet
+    acting_in (map left_out_place left_out) (flat_map continued_places gathered.files) (whole ++ missing_lines gathered.left_out) alphabet ++ made_lines gathered left_out
 
 -- ---- As the code has them
 

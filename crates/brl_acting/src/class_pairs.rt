@@ -1,7 +1,7 @@
 //! The classes that lines give characters.
 ghost use Rattle.std.specs.Prelude.{◌≡◌, ◌++◌, IfOk, OnOk, [], ◌∷◌, codes, map};
 ghost use Rattle.std.specs.Option.{unwrap_or};
-ghost use Rattle.brl_acting.specs.Classes.{classes_in as classes_by_line, classes_named as classes_by_name, classes_of as classes_by_lines, classes_of_pair as classes_by_pair, classes_of_pairs as classes_by_pairs, classes_with as classes_by_character, names_class as names_class_by, noletsigns_in as noletsigns_by_line, noletsigns_of as noletsigns_by_lines, only as only_by};
+ghost use Rattle.brl_acting.specs.Classes.{besides_in as besides_by_line, besides_of as besides_by_lines, classes_in as classes_by_line, classes_named as classes_by_name, classes_of as classes_by_lines, classes_of_pair as classes_by_pair, classes_of_pairs as classes_by_pairs, classes_with as classes_by_character, names_class as names_class_by, noletsigns_in as noletsigns_by_line, noletsigns_of as noletsigns_by_lines, only as only_by};
 ghost use Rattle.brl_acting.specs.Sets.{is_one_of, pair_views};
 ghost use Rattle.brl_acting.specs.Words.{chars_at as chars_by, parts_view};
 
@@ -156,6 +156,35 @@ fn is_word(opcode: &str) -> bool
     ensures { result ≡ is_one_of (codes "word" ∷ codes "largesign" ∷ []) opcode.now }
 {
     matches!(opcode, "word" | "largesign")
+}
+
+/// Adds the characters beside which `letsign` doesn't stand, by a line.
+fn push_besides(alloc: Global, chars: &mut Vec<char>, parts: &Parts<'_>) -> Result<(), AllocError>
+    ensures { OnOk result (chars.new.items ≡ chars.old.items ++ besides_by_line (parts_view parts.now)) }
+{
+    let words = parts.words.as_slice();
+    if is_beside(word_at(words, 0)) {
+        chars.extend_from_slice(chars_or(alloc, words, 1, &[])?.as_slice())?;
+    }
+    Ok(())
+}
+
+/// Whether lines of an opcode list characters beside which `letsign` doesn't stand.
+fn is_beside(opcode: &str) -> bool
+    ensures { result ≡ is_one_of (codes "noletsignbefore" ∷ codes "noletsignafter" ∷ []) opcode.now }
+{
+    matches!(opcode, "noletsignbefore" | "noletsignafter")
+}
+
+/// The characters beside which `letsign` doesn't stand.
+pub(crate) fn besides_of(alloc: Global, lines: &[Parts<'_>]) -> Result<Vec<char>, AllocError>
+    ensures { IfOk result (λ chars. chars.items ≡ besides_by_lines (map parts_view lines.now)) }
+{
+    let mut chars = Vec::new(alloc);
+    for parts in lines {
+        push_besides(alloc, &mut chars, parts)?;
+    }
+    Ok(chars)
 }
 
 /// The letters before which `letsign` doesn't stand.

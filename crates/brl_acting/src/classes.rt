@@ -18,6 +18,9 @@ pub(crate) struct Classes<'a> {
     pub capitals: CharSet,
     pub plain_digits: CharSet,
     pub literary_digits: CharSet,
+    pub letters: CharSet,
+    /// Letters before which `letsign` doesn't stand.
+    pub noletsigns: CharSet,
 }
 
 /// The names of pairs.
@@ -79,13 +82,15 @@ pub(crate) fn member_list(
     Ok(chars)
 }
 
-/// The classes of a table by the characters that have them, and by those that are stood for.
+/// The classes of a table by the characters that have them, by letters before which `letsign`
+/// doesn't stand, and by those that are stood for.
 pub(crate) fn classes_of<'a>(
     alloc: Global,
     pairs: &[ClassPair<'a>],
+    noletsigns: &[char],
     stood: &CharSet,
 ) -> Result<Classes<'a>, AllocError>
-    ensures { IfOk result (λ classes. classes_view classes ≡ classes_by (pair_views pairs.now) (set_view stood.now)) }
+    ensures { IfOk result (λ classes. classes_view classes ≡ classes_by (pair_views pairs.now) noletsigns.now (set_view stood.now)) }
 {
     let met_pairs = met_of(alloc, pairs, stood)?;
     let names = names_of(alloc, pairs)?;
@@ -93,11 +98,15 @@ pub(crate) fn classes_of<'a>(
     let capitals = members(alloc, pairs, "uppercase")?;
     let plain_digits = members(alloc, pairs, "digit")?;
     let literary_digits = members(alloc, pairs, "litdigit")?;
+    let letters = members(alloc, pairs, "letter")?;
+    let noletsigns = CharSet::of(alloc, noletsigns)?;
     Ok(Classes {
         names,
         met,
         capitals,
         plain_digits,
         literary_digits,
+        letters,
+        noletsigns,
     })
 }

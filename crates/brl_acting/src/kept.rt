@@ -2,7 +2,7 @@
 ghost use Rattle.std.specs.Prelude.{◌≡◌, ◌∷◌, [], IfOk, map, true};
 ghost use Rattle.std.specs.List.{list_any};
 ghost use Rattle.std.specs.Option.{option_map_or};
-ghost use Rattle.brl_acting.specs.Acting.{chars_act as chars_act_by, contraction_acts as contraction_acts_by, differs_by as differs_by_form, is_capital_rule as is_capital_rule_by, is_always_before as is_always_before_by, is_half_digit as is_half_digit_by, is_number_rule as is_number_rule_by, is_run_rule as is_run_rule_by, is_same_small as is_same_small_by, kept_acts as kept_acts_by, kept_rule_acts as kept_rule_acts_by, more_act as more_act_by, one_acts as one_acts_by, some_act as some_act_by};
+ghost use Rattle.brl_acting.specs.Acting.{begins_alone as begins_alone_by, chars_act as chars_act_by, comes_late as comes_late_by, contraction_acts as contraction_acts_by, differs_by as differs_by_form, ends_run as ends_run_by, gets_sign as gets_sign_by, is_before_sign as is_before_sign_by, is_capital_rule as is_capital_rule_by, is_always_before as is_always_before_by, is_half_digit as is_half_digit_by, is_number_rule as is_number_rule_by, is_run_rule as is_run_rule_by, is_same_small as is_same_small_by, kept_acts as kept_acts_by, kept_rule_acts as kept_rule_acts_by, lacks_sign as lacks_sign_by, loses_sign as loses_sign_by, more_act as more_act_by, one_acts as one_acts_by, small_act as small_act_by, some_act as some_act_by};
 ghost use Rattle.brl_acting.specs.Readings.{known_view, rule_view, small_by};
 ghost use Rattle.brl_acting.specs.Words.{chars_at as chars_by, parts_view};
 
@@ -23,13 +23,48 @@ fn is_always_before(rule: &Rule<'_>, character: char, place: usize) -> bool
     rule.opcode == "always" && rule.chars.as_slice() == [character].as_slice() && rule.place < place
 }
 
-/// Whether a rule of one character can act in another way. A contraction is read as a rule for a
-/// place.
+/// Whether `letsign` may stand before a character, where it is rewritten.
+fn gets_sign(known: &Known<'_>, character: char) -> bool
+    ensures { result ≡ gets_sign_by (known_view known.now) character }
+{
+    known.read.letsign.is_some()
+        && known.classes.letters.has(character)
+        && !known.classes.noletsigns.has(character)
+}
+
+/// Whether a place is before the line with `letsign`.
+fn is_before_sign(known: &Known<'_>, place: usize) -> bool
+    ensures { result ≡ is_before_sign_by (known_view known.now) place }
+{
+    match known.read.letsign {
+        Some(sign) => place < sign,
+        None => false,
+    }
+}
+
+/// Whether brl uses a rule of one character for the letter alone, and doesn't write `letsign`.
+fn loses_sign(known: &Known<'_>, place: usize, opcode: &str, character: char) -> bool
+    ensures { result ≡ loses_sign_by (known_view known.now) place opcode.now character }
+{
+    matches!(opcode, "sufword" | "prfword")
+        && is_before_sign(known, place)
+        && gets_sign(known, character)
+}
+
+/// Whether an `always` rule is before a rule of one character for a place. A contraction is read as
+/// such a rule.
+fn comes_late(known: &Known<'_>, place: usize, opcode: &str, character: char) -> bool
+    ensures { result ≡ comes_late_by (known_view known.now) place opcode.now character }
+{
+    (is_placed(opcode) || opcode == "contraction")
+        && has_always(known.read.rules.as_slice(), character, place)
+}
+
+/// Whether a rule of one character can act in another way.
 fn one_acts(known: &Known<'_>, place: usize, opcode: &str, character: char) -> bool
     ensures { result ≡ one_acts_by (known_view known.now) place opcode.now character }
 {
-    let placed = is_placed(opcode) || opcode == "contraction";
-    if placed && has_always(known.read.rules.as_slice(), character, place) {
+    if comes_late(known, place, opcode, character) || loses_sign(known, place, opcode, character) {
         known.reach.alphabet.has(character)
     } else {
         known.reach.over.has(character)
@@ -112,6 +147,38 @@ fn is_capital_rule(
     Ok(!has_same(rules, place, words, small.as_slice()))
 }
 
+/// Whether a run of capitals ends or begins at a rule, where there are any.
+fn ends_run(known: &Known<'_>, opcode: &str) -> bool
+    ensures { result ≡ ends_run_by (known_view known.now) opcode.now }
+{
+    is_run_rule(opcode) && known.read.keeps_word && known.facts.has_capital
+}
+
+/// Whether characters begin with a letter alone before which `letsign` may stand.
+fn begins_alone(known: &Known<'_>, chars: &[char]) -> bool
+    ensures { result ≡ begins_alone_by (known_view known.now) chars.now }
+{
+    match chars {
+        [first, second, ..] => gets_sign(known, *first) && !known.classes.letters.has(*second),
+        _ => false,
+    }
+}
+
+/// Whether a rule gets `letsign`, and a cut doesn't write it.
+fn lacks_sign(known: &Known<'_>, opcode: &str, chars: &[char]) -> bool
+    ensures { result ≡ lacks_sign_by (known_view known.now) opcode.now chars.now }
+{
+    matches!(opcode, "always" | "prfword" | "begmidword" | "partword") && begins_alone(known, chars)
+}
+
+/// Whether a rule of more characters without a capital can act in another way.
+fn small_act(known: &Known<'_>, opcode: &str, chars: &[char]) -> bool
+    ensures { result ≡ small_act_by (known_view known.now) opcode.now chars.now }
+{
+    (ends_run(known, opcode) || lacks_sign(known, opcode, chars))
+        && known.reach.stood.has_all(chars)
+}
+
 /// Whether a rule of more characters can act in another way.
 fn more_act(
     alloc: Global,
@@ -128,12 +195,7 @@ fn more_act(
         }
         return is_capital_rule(alloc, known, place, parts, chars);
     }
-    Ok(
-        is_run_rule(word_at(parts.words.as_slice(), 0))
-            && known.read.keeps_word
-            && known.facts.has_capital
-            && known.reach.stood.has_all(chars),
-    )
+    Ok(small_act(known, word_at(parts.words.as_slice(), 0), chars))
 }
 
 /// Whether a contraction of more characters can act in another way.
@@ -249,6 +311,10 @@ fn differs_by(
                 && (known.facts.has_caseless || !known.read.keeps_runs),
         ),
         Form::Rule => kept_rule_acts(alloc, known, place, parts),
+        Form::Letsign => {
+            let facts = &known.facts;
+            Ok(facts.has_odd && (facts.has_letter || facts.has_capital))
+        }
         _ => Ok(false),
     }
 }

@@ -6,7 +6,7 @@ ghost use Rattle.brl_acting.specs.Words.{parts_view};
 
 use crate::bases::bases_of;
 use crate::class_pairs;
-use crate::class_pairs::{ClassPair, noletsigns_of};
+use crate::class_pairs::{ClassPair, besides_of, noletsigns_of};
 use crate::classes::{Classes, classes_of};
 use crate::facts::{Facts, facts_of};
 use crate::parts::Parts;
@@ -23,20 +23,21 @@ pub(crate) struct Known<'a> {
     pub read: Readings<'a>,
 }
 
-/// What is known of lines and these characters, by the classes and the capitals that the lines
-/// give, and by facts.
+/// What is known of lines and these characters, by the classes, the capitals and the letters
+/// without `letsign` that the lines give, and by facts.
 fn known_from<'a>(
     alloc: Global,
     lines: &[Parts<'a>],
     pairs: &[ClassPair<'a>],
     bases: &[(char, char)],
+    noletsigns: &[char],
     facts: Facts,
     chars: &[char],
 ) -> Result<Known<'a>, AllocError>
-    ensures { IfOk result (λ known. known_view known ≡ known_from_facts (map parts_view lines.now) (pair_views pairs.now) bases.now facts chars.now) }
+    ensures { IfOk result (λ known. known_view known ≡ known_from_facts (map parts_view lines.now) (pair_views pairs.now) bases.now noletsigns.now facts chars.now) }
 {
     let reach = reach_of(alloc, bases, chars)?;
-    let classes = classes_of(alloc, pairs, &reach.stood)?;
+    let classes = classes_of(alloc, pairs, noletsigns, &reach.stood)?;
     let read = readings_of(alloc, lines, bases, &reach.near, facts)?;
     Ok(Known {
         reach,
@@ -57,11 +58,13 @@ fn known_with<'a>(
     let pairs = class_pairs::classes_of(alloc, lines)?;
     let bases = bases_of(alloc, lines)?;
     let noletsigns = noletsigns_of(alloc, lines)?;
+    let besides = besides_of(alloc, lines)?;
     let facts = facts_of(
         alloc,
         pairs.as_slice(),
         bases.as_slice(),
         noletsigns.as_slice(),
+        besides.as_slice(),
         chars,
     )?;
     known_from(
@@ -69,6 +72,7 @@ fn known_with<'a>(
         lines,
         pairs.as_slice(),
         bases.as_slice(),
+        noletsigns.as_slice(),
         facts,
         chars,
     )

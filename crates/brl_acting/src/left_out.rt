@@ -193,7 +193,7 @@ fn acts_by(
         Form::DigitList => list_acts(alloc, known, words),
         Form::Mode => Ok(mode_acts(known, words)),
         Form::Sequence => Ok(known.facts.has_mark),
-        Form::Letsign => Ok(known.facts.has_letter),
+        Form::Letsign => Ok(known.facts.has_letter && known.read.letsign.is_none()),
     }
 }
 

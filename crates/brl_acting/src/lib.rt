@@ -14,7 +14,7 @@
 //! characters stand for which, by the capitals of `bases`; `classes` and `facts` what classes have,
 //! by `class_pairs`; `readings` what the lines that brl reads give, and `rules` their rules.
 //! `items` takes tests apart, which `tests_met` judges; `left_out` judges lines that are left out,
-//! and `kept` those that are read.
+//! and `kept` those that are read. `letters` has the letters before which `letsign` may stand.
 //!
 //! Room 1, text and tables (docs/dev/ARCHITECTURE.md). The definitions begin in
 //! `specs/Acting.antt`, and `specs/Forms.antt` has the table of opcodes.
@@ -32,6 +32,7 @@ mod kept;
 mod known;
 mod laws;
 mod left_out;
+mod letters;
 mod name_set;
 mod operand;
 mod parts;
@@ -44,5 +45,6 @@ mod whole_table;
 
 pub use judging::acting;
 pub use laws::{idle_laws, idle_needs_law};
+pub use letters::Letters;
 pub use table_line::TableLine;
 pub use whole_table::{ActingLine, acting_of_table};

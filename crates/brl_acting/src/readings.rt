@@ -4,7 +4,7 @@ ghost use Rattle.std.specs.List.{list_any};
 ghost use Rattle.brl_cells.specs.Dots.{reading};
 ghost use Rattle.brl_table.specs.Items.{parts_of as parts_around};
 ghost use Rattle.brl_acting.specs.Capitals.{has_opcode as has_opcode_by};
-ghost use Rattle.brl_acting.specs.Readings.{cells_at, cells_if, cells_in as cells_by_word, cells_of as cells_by, dots_place as dots_place_by, given_cells, keeps as keeps_by, keeps_runs as keeps_runs_by, place_if as place_by, readings_by, readings_view, sign_cells as sign_cells_by, sign_cells_in, signs_if_near, small_by};
+ghost use Rattle.brl_acting.specs.Readings.{cells_at, cells_if, cells_in as cells_by_word, cells_of as cells_by, dots_place as dots_place_by, given_cells, keeps as keeps_by, is_kept_letsign as is_kept_letsign_by, keeps_runs as keeps_runs_by, letsign_of as letsign_by, place_if as place_by, readings_by, readings_view, sign_cells as sign_cells_by, sign_cells_in, signs_if_near, small_by};
 ghost use Rattle.brl_acting.specs.Sets.{is_in, set_view};
 ghost use Rattle.brl_acting.specs.Words.{parts_view};
 
@@ -33,6 +33,8 @@ pub(crate) struct Readings<'a> {
     pub keeps_word: bool,
     /// Whether the other two indicators of capitals are read.
     pub keeps_runs: bool,
+    /// The place of the line with `letsign` that is read.
+    pub letsign: Option<usize>,
 }
 
 /// By what lines give texts over the alphabet cells.
@@ -113,6 +115,7 @@ fn dots_place(near: &CharSet, facts: Facts, chars: &[char], form: Option<Form>) 
         Some(Form::Rule) => place_if(near.has_all(chars), 2),
         Some(Form::Capitals) => place_if(facts.has_capital, 1),
         Some(Form::Digits) => place_if(facts.has_digit, 1),
+        Some(Form::Letsign) => place_if(facts.has_letter, 1),
         _ => None,
     }
 }
@@ -255,6 +258,20 @@ fn keeps_runs(lines: &[Parts<'_>]) -> bool
     keeps(lines, "endcapsword") && (keeps(lines, "capsletter") || keeps(lines, "capsign"))
 }
 
+/// Whether this is a line with `letsign` that is read.
+fn is_kept_letsign(parts: &Parts<'_>) -> bool
+    ensures { result ≡ is_kept_letsign_by (parts_view parts.now) }
+{
+    parts.kept && has_opcode(parts, "letsign")
+}
+
+/// The place of the line with `letsign` that is read.
+fn letsign_of(lines: &[Parts<'_>]) -> Option<usize>
+    ensures { result ≡ letsign_by (map parts_view lines.now) }
+{
+    lines.iter().position(|parts| is_kept_letsign(parts))
+}
+
 /// What the lines give that brl reads.
 pub(crate) fn readings_of<'a>(
     alloc: Global,
@@ -275,5 +292,6 @@ pub(crate) fn readings_of<'a>(
         has_numsign: has(lines, "numsign"),
         keeps_word: keeps(lines, "begcapsword"),
         keeps_runs: keeps_runs(lines),
+        letsign: letsign_of(lines),
     })
 }

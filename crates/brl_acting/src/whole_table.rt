@@ -4,7 +4,7 @@ ghost use Rattle.brl_lines.specs.GatherFaults.{gathered_view};
 ghost use Rattle.brl_lines.specs.Gathered.{left_view};
 ghost use Rattle.brl_lines.specs.Views.{line_view};
 ghost use Rattle.brl_table.specs.Survey.{faulty_line_view};
-ghost use Rattle.brl_acting.specs.WholeTable.{Holds, acting_among as acting_among_by, acting_in, acting_line as acting_by, acting_of_table as acting_of_table_by, acting_view, continued_at, continued_places as continued_by, file_view, goes_on as goes_on_by, has_place, include_line as include_line_by, is_key, is_missing as is_missing_by, is_place, line_at, line_place, missing_lines as missing_by, left_out_place, place_view, rows_of, table_line as table_line_by, taken_lines};
+ghost use Rattle.brl_acting.specs.WholeTable.{Holds, acting_among as acting_among_by, acting_in, acting_line as acting_by, acting_of_table as acting_of_table_by, acting_view, continued_at, continued_places as continued_by, file_view, goes_on as goes_on_by, has_place, include_line as include_line_by, is_key, is_in_files as is_in_files_by, is_missing as is_missing_by, is_place, line_at, line_place, made_line as made_by, made_lines as made_lines_by, missing_lines as missing_by, left_out_place, place_view, rows_of, table_line as table_line_by, taken_lines};
 ghost use Rattle.brl_acting.specs.Words.{table_line_view};
 
 use crate::judging::acting;
@@ -273,12 +273,51 @@ fn acting_among(
     acting_of_lines(alloc, table_lines.as_slice(), alphabet)
 }
 
+/// Whether a line that is left out is one of a file of the table.
+fn is_in_files(gathered: &Gathered, faulty: &FaultyLine) -> bool
+    ensures { result ≡ is_in_files_by (gathered_view gathered.now) (faulty_line_view faulty.now) }
+{
+    let path = faulty.fault.file.as_str();
+    gathered.files.iter().any(|file| file.path.as_str() == path)
+}
+
+/// A line that is left out, of a file that the cut has made.
+fn made_line(alloc: Global, faulty: &FaultyLine) -> Result<ActingLine, AllocError>
+    ensures { IfOk result (λ acting. acting_view acting ≡ made_by (faulty_line_view faulty.now)) }
+{
+    Ok(ActingLine {
+        opcode: String::from_str(alloc, faulty.opcode.as_str())?,
+        place: Location {
+            file: String::from_str(alloc, faulty.fault.file.as_str())?,
+            line: faulty.fault.line,
+        },
+        kept: false,
+    })
+}
+
+/// Adds the lines that are left out of a file that the cut has made.
+fn push_made(
+    alloc: Global,
+    found: &mut Vec<ActingLine>,
+    gathered: &Gathered,
+    left_out: &[FaultyLine],
+) -> Result<(), AllocError>
+    ensures { OnOk result (map acting_view found.new.items ≡ map acting_view found.old.items ++ made_lines_by (gathered_view gathered.now) (map faulty_line_view left_out.now)) }
+{
+    for faulty in left_out {
+        if !is_in_files(gathered, faulty) {
+            found.push(made_line(alloc, faulty)?)?;
+        }
+    }
+    Ok(())
+}
+
 /// The lines of a whole table that can act on texts over an alphabet of characters that its cut
 /// defines, where the cut leaves these out: first those of the gathered files in the order in which
-/// liblouis reads them, and then include lines whose file isn't there. The blank always belongs to
-/// the alphabet. Where there are none, the whole table writes the cells of its cut for each text
-/// over the alphabet: this is a claim of liblouis that isn't proved. `AllocError` if memory runs
-/// out.
+/// liblouis reads them, then include lines whose file isn't there, and then all that are left out
+/// of a file that the cut has made. The blank always belongs to the alphabet. Where there are none,
+/// the whole table writes the cells of its cut for each text over the alphabet: this is a claim of
+/// liblouis that isn't proved. `AllocError` if memory runs out.
 pub fn acting_of_table<'a>(
     alloc: Global,
     whole: &'a Loaded,
@@ -291,11 +330,13 @@ pub fn acting_of_table<'a>(
 {
     let mut lines = whole.lines(alloc)?;
     push_missing(alloc, &mut lines, gathered.left_out.as_slice())?;
-    acting_among(
+    let mut found = acting_among(
         alloc,
         lines.as_slice(),
         left_out,
         gathered.files.as_slice(),
         alphabet,
-    )
+    )?;
+    push_made(alloc, &mut found, gathered, left_out)?;
+    Ok(found)
 }

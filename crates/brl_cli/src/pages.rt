@@ -378,7 +378,7 @@ It prints:
     page! {
         "cut": "Writes the lines of a table that are read as a table of its own",
         arguments: [
-            Argument("rewrite", Switch, "Also read three more forms of lines, as they are rewritten"),
+            Argument("rewrite", Switch, "Also read four more forms of lines, as they are rewritten"),
             Argument("only", Text("CHARS"), "Say which lines can act on texts of these characters"),
             TABLE,
             Argument("DIR", Operand, "The folder that gets the files"),
@@ -393,18 +393,21 @@ line that includes it, so DIR has the whole table, and is read without --path.
 Where the opcode of a line that is left out isn't one of liblouis', as of one that
 is misspelt, the exit status is 1. The files are written all the same.
 
-With --rewrite three more forms of lines are read, and written as they are read: a
+With --rewrite four more forms of lines are read, and written as they are read: a
 line that defines a character after noback; base uppercase U L, which is uplow UL
-with the dots of L; and contraction X of small letters, which is word X with the
-dots of nocontractsign, of letsign and of these letters.
+with the dots of L; contraction X of small letters, which is word X with the dots
+of nocontractsign, of letsign and of these letters; and the last letsign line,
+which includes letsign-made.cti, a file that is made: a word line for each letter
+that may stand alone. Rules that begin with such a letter alone get its dots too.
 
 With --only it is also said which lines of the whole table can act on texts of
 these characters: lines that are left out, and lines that are read in another
 way than liblouis does. Where none can, what brl search, check, clashes and
 unused say with the same --only holds of TABLE; this rests on what tests found
 of liblouis. Where one can, the exit status is 1, and the files are written all
-the same. CHARS are spelled as in a table, x..y is all characters from x to y
-that the cut defines, and the blank always belongs to them.",
+the same; there '# can act: ' is before each line that is left out and can act.
+CHARS are spelled as in a table, x..y is all characters from x to y that the cut
+defines, and the blank always belongs to them.",
         example: "Example, a table in which one of three lines isn't read:
   printf '%s\\n' 'letter a 1' 'pass2 @1 @2' 'letter b 12' > far.ctb
   brl cut far.ctb near > cut.txt

@@ -1,12 +1,10 @@
 -- Files that are left to be placed.
-use Rattle.std.proofs.Common.{◌≡◌, ◌∙◌, ℕ, ◌≤◌, ◌⊎◌, Bool, true, false, nat_lt, List, [], ◌∷◌, ap, drop, length, map, min, refl, string_bytes, arith, inl, inr}
+use Rattle.std.proofs.Common.{◌≡◌, ◌∙◌, ℕ, ◌≤◌, ◌⊎◌, Bool, true, false, nat_lt, List, [], ◌∷◌, ap, drop, length, map, min, refl, string_bytes, zip, arith, inl, inr}
 use Rattle.std.proofs.lemmas.Bool.Decides.{nat_tests}
 use Rattle.std.proofs.lemmas.List.{drop_all}
 use Rattle.std.specs.Global.{Global}
 use Rattle.std.specs.Prelude.{String}
 use Rattle.brl_lines.specs.declared.gathering.GatheredFile.{GatheredFile}
-use Rattle.brl_cut.specs.Cuts.{written_files}
-use Rattle.brl_cut.specs.Edits.{Texts}
 use Rattle.brl_cut.specs.Files.{file_view}
 
 -- the lesser of two numbers is one of them
@@ -17,20 +15,15 @@ at-an-end i n k is = by_test (nat_lt n k) refl
     by_test true l = inl (grind (arith, nat_tests, l, is))
     by_test false l = inr (grind (arith, nat_tests, l, is))
 
-no-files : (dir : List ℕ) (names : List (List ℕ)) → written_files dir names [] ≡ []
-no-files dir [] = refl
-no-files dir (name ∷ names) = refl
+no-files : (names : List (List ℕ)) → zip {K = List ℕ} {X = List ℕ × List ℕ} names [] ≡ []
+no-files [] = refl
+no-files (name ∷ names) = refl
 
-module _ (dir : List ℕ) (names : List (String Global)) (files : List GatheredFile) (i : ℕ) where
-  -- the files from a place on, as they are written
-  abbrev pub left : Texts
-  left = written_files dir (map string_bytes (drop i names)) (map file_view (drop i files))
-
-  -- none is left
-  pub left-none : i ≡ min (length names) (length files) → left ≡ []
-  left-none e = by_end (at-an-end i (length names) (length files) e)
-    where
-      by_end : (length names ≤ i) ⊎ (length files ≤ i) → left ≡ []
-      by_end (inl past) = ap (λ (ns : List (String Global)). written_files dir (map string_bytes ns) (map file_view (drop i files))) (drop_all i names past)
-      by_end (inr past) =
-          ap (λ (fs : List GatheredFile). written_files dir (map string_bytes (drop i names)) (map file_view fs)) (drop_all i files past) ∙ no-files dir (map string_bytes (drop i names))
+-- no file is left, with its name
+pub zip-none : (names : List (String Global)) (files : List GatheredFile) (i : ℕ) → i ≡ min (length names) (length files) → zip (map string_bytes (drop i names)) (map file_view (drop i files)) ≡ []
+zip-none names files i e = by_end (at-an-end i (length names) (length files) e)
+  where
+    by_end : (length names ≤ i) ⊎ (length files ≤ i) → zip (map string_bytes (drop i names)) (map file_view (drop i files)) ≡ []
+    by_end (inl past) = ap (λ (ns : List (String Global)). zip (map string_bytes ns) (map file_view (drop i files))) (drop_all i names past)
+    by_end (inr past) =
+        ap (λ (fs : List GatheredFile). zip (map string_bytes (drop i names)) (map file_view fs)) (drop_all i files past) ∙ no-files (map string_bytes (drop i names))

@@ -1,6 +1,7 @@
 -- Facts of lines that are rewritten.
-use Rattle.std.proofs.Common.{◌≡◌, ◌∙◌, ℕ, ◌<◌, ◌&&◌, ◌==◌, List, [], ◌∷◌, ◌++◌, ap, arith, length, map, refl, sym}
+use Rattle.std.proofs.Common.{◌≡◌, ◌∙◌, ℕ, ◌<◌, ◌≤◌, ◌&&◌, ◌==◌, List, [], ◌∷◌, ◌++◌, ap, arith, false, get_or, length, map, not, refl, sym}
 use Rattle.std.proofs.lemmas.List.{append-nil, length-map}
+use Rattle.brl_acting.specs.Letters.{Letters}
 use Rattle.brl_lines.specs.Tokens.{LineView}
 use Rattle.brl_lines.specs.Views.{token_view}
 use Rattle.brl_lines.specs.declared.line.Token.{Token}
@@ -8,6 +9,7 @@ use Rattle.brl_table.specs.Survey.{FindingsView, faulty_line_view, findings_view
 use Rattle.brl_table.specs.declared.faulty.Findings.{Findings}
 use Rattle.brl_cut.specs.Edits.{EditView}
 use Rattle.brl_rules.specs.declared.rule.Info.{Info}
+use Rattle.brl_cut.specs.Letsigns.{begins_alone}
 use Rattle.brl_cut.specs.Putting.{is_definition}
 use Rattle.brl_cut.specs.Rewriting.{edit_to_pair, edit_to_words}
 
@@ -34,3 +36,16 @@ few-operands-add edits characters line [] few = sym (append-nil edits)
 few-operands-add edits characters line (a ∷ []) few = sym (append-nil edits)
 few-operands-add edits characters line (a ∷ b ∷ []) few = sym (append-nil edits)
 few-operands-add edits characters line (a ∷ b ∷ c ∷ operands) few = absurd (omega arith)
+
+-- fewer than two characters are no letter and another one
+pub few-chars : (letters : Letters) (chars : List ℕ) → length chars < 2 → begins_alone letters chars ≡ false
+few-chars letters [] few = refl
+few-chars letters (c ∷ []) few = refl
+few-chars letters (c ∷ d ∷ others) few = absurd (omega arith)
+
+-- of more the first two decide
+pub more-chars : (letters : Letters) (chars : List ℕ) (default other first second : ℕ) → 2 ≤ length chars → first ≡ get_or chars 0 default → second ≡ get_or chars 1 other
+    → begins_alone letters chars ≡ (letters.takes_sign first && not (letters.is_letter second))
+more-chars letters [] default other first second many is also = absurd (omega arith)
+more-chars letters (c ∷ []) default other first second many is also = absurd (omega arith)
+more-chars letters (c ∷ d ∷ others) default other first second many is also = λ j. letters.takes_sign (sym is j) && not (letters.is_letter (sym also j))

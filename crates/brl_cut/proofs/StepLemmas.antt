@@ -1,5 +1,8 @@
 -- Steps that rewrite lines, one more at a time.
-use Rattle.std.proofs.Common.{◌≡◌, ◌∙◌, ℕ, ◌+◌, ◌<◌, List, [], ◌∷◌, ◌++◌, ap, get_or, length, sym, take}
+use Rattle.std.proofs.Common.{◌≡◌, ◌∙◌, ℕ, ◌+◌, ◌<◌, List, [], ◌∷◌, ◌++◌, ap, arith, flat_map, get_or, length, slice_get, sym, take}
+use Rattle.std.specs.Option.{option_map_or}
+use Rattle.std.proofs.lemmas.Grind.{flat_map-append}
+use Rattle.std.proofs.lemmas.Option.{slice_get-get_or}
 use Rattle.std.proofs.lemmas.List.{append-nil, append_assoc, take_more}
 use Rattle.std.proofs.lemmas.List.Sums.{fold_push}
 use Rattle.brl_cut.specs.Edits.{EditView, Texts, edited_files}
@@ -33,3 +36,13 @@ module _ (folders : List (List ℕ)) (root : List ℕ) where
         ∙ ap (λ (es : List EditView). steps_edits folders root (take i forms) start ++ es) (more-are ∙ ap (step_edits folders root form) now)
         ∙ sym (edits-push (take i forms) form start)
         ∙ ap (λ (fs : List Form). steps_edits folders root fs start) (sym one-more)
+
+-- the lines of one item more
+pub entries-more : {X : Type 0} (f : X → List ℕ) (xs : List X) (i : ℕ) → i < length xs → flat_map f (take i xs) ++ option_map_or f (slice_get xs i) [] ≡ flat_map f (take (i + 1) xs)
+entries-more f [] i within = absurd (omega arith)
+entries-more f (y ∷ ys) i within =
+    let xs = y ∷ ys in
+    let x = get_or xs i y in
+    ap (λ found. flat_map f (take i xs) ++ option_map_or f found []) (slice_get-get_or xs i y within)
+    ∙ ap (λ line. flat_map f (take i xs) ++ line) (sym (append-nil (f x)))
+    ∙ sym (ap (flat_map f) (take_more xs i y within) ∙ flat_map-append f (take i xs) (x ∷ []))

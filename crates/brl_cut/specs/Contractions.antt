@@ -1,13 +1,12 @@
 -- Lines that begin with `contraction`. The manual has this opcode in section "Translation Opcodes".
 -- Liblouis reads such a line as the `word` rule of its characters, with the cells of two indicators
 -- before theirs, as tests found. It does so for small letters; lines of others aren't rewritten.
-use Rattle.std.specs.Prelude.{ℕ, Bool, false, ◌-◌, ◌&&◌, not, nat_eq, nat_le, if◌then◌else◌, List, [], ◌∷◌, ◌++◌, codes, flat_map, length, slice_get, unwrap_or, Result, Ok, Err}
+use Rattle.std.specs.Prelude.{ℕ, Bool, false, ◌&&◌, not, nat_eq, nat_le, if◌then◌else◌, List, [], ◌∷◌, ◌++◌, codes, flat_map, length, Option, Result, Ok, Err}
 use Rattle.std.specs.List.{list_all}
 use Rattle.std.specs.Map.{lookup}
 use Rattle.std.specs.Option.{option_map_or}
 use Rattle.std.specs.Str.{bytes_eq}
-use Rattle.brl_cells.specs.Dots.{reading, spelling}
-use Rattle.brl_cells.specs.declared.fault.DotsFault.{DotsFault}
+use Rattle.brl_cells.specs.Dots.{spelling}
 use Rattle.brl_lines.specs.Escapes.{characters_of}
 use Rattle.brl_lines.specs.Tokens.{LineView, TokenView}
 use Rattle.brl_lines.specs.declared.operand.CharsFault.{CharsFault}
@@ -16,36 +15,16 @@ use Rattle.brl_rules.specs.declared.rule.Info.{Info}
 use Rattle.brl_table.specs.Survey.{good_characters}
 use Rattle.brl_cut.specs.Edits.{EditView}
 use Rattle.brl_cut.specs.Putting.{edit_to, words_in_place}
+use Rattle.brl_cut.specs.Signs.{SignView, cells_of, first_sign, letsign_of}
 
 -- ---- The cells of indicators
 
--- the cells that a word spells, as a list of one; none where it has a fault
-abbrev pub cells_if : Result (List ℕ) DotsFault → List (List ℕ)
-cells_if (Ok cells) = cells ∷ []
-cells_if (Err fault) = []
+-- the cells before those of the characters, where this sign is that before a letter
+abbrev pub cells_before : List LineView → Option SignView → List ℕ
+cells_before lines letsign = cells_of (first_sign (codes "nocontractsign") lines) ++ cells_of letsign
 
--- the cells that the first of these words spells, if it does
-abbrev pub first_cells : List TokenView → List (List ℕ)
-first_cells [] = []
-first_cells (dots ∷ comment) = cells_if (reading 16 dots.text)
-
--- the cells of an indicator by each line with its opcode that gives it some
-abbrev pub cells_given : List ℕ → LineView → List (List ℕ)
-cells_given opcode line = if bytes_eq line.opcode.text opcode then first_cells line.operands else []
-
-abbrev pub all_given : List ℕ → List LineView → List (List ℕ)
-all_given opcode lines = flat_map (cells_given opcode) lines
-
--- the cells by the first such line, and by the last; none where there is no such line
-abbrev pub first_given : List ℕ → List LineView → List ℕ
-first_given opcode lines = unwrap_or (slice_get (all_given opcode lines) 0) []
-
-abbrev pub last_given : List ℕ → List LineView → List ℕ
-last_given opcode lines = unwrap_or (slice_get (all_given opcode lines) (length (all_given opcode lines) - 1)) []
-
--- the cells before those of the characters
 abbrev pub sign_cells : List LineView → List ℕ
-sign_cells lines = first_given (codes "nocontractsign") lines ++ last_given (codes "letsign") lines
+sign_cells lines = cells_before lines (letsign_of lines)
 
 -- ---- The cells of characters
 

@@ -1,5 +1,5 @@
 -- The readable part of a table as files of their own. The project's own choice.
-use Rattle.std.specs.Prelude.{ℕ, Bool, ◌≡◌, List, [], ◌++◌, codes, map, string_bytes, zip, Ok}
+use Rattle.std.specs.Prelude.{ℕ, Bool, ◌≡◌, List, [], ◌∷◌, ◌++◌, codes, map, string_bytes, zip}
 use Rattle.brl_lines.specs.Answer.{FileAnswers, answer_of, same_answer}
 use Rattle.brl_lines.specs.GatherFaults.{IsGatherFault, IsGathered, gathered_view}
 use Rattle.brl_lines.specs.Gathering.{GatheredView, LeftView}
@@ -16,7 +16,8 @@ use Rattle.brl_table.specs.declared.table_fault.TableFaultKind.TheVariants.{Outs
 use Rattle.brl_rules.specs.TableView.{TableView}
 use Rattle.brl_cut.specs.Edits.{EditView, Texts, edited_files}
 use Rattle.brl_cut.specs.Files.{file_view}
-use Rattle.brl_cut.specs.Rewriting.{count_rewritten, rewriting_edits, rewritten_files}
+use Rattle.brl_cut.specs.Letsigns.{made_name}
+use Rattle.brl_cut.specs.Rewriting.{Around, RewrittenView, count_rewritten, rewritten}
 use Rattle.brl_cut.specs.Rounds.{IsUnsettled}
 use Rattle.brl_cut.specs.Settling.{IsSettled, bytes_at, comment, fault_edit}
 use Rattle.brl_table.specs.declared.readable.Cut.{Cut}
@@ -53,18 +54,28 @@ without_includes gathered = without_include_lines gathered.left_out gathered.fil
 
 -- ---- Lines that are rewritten
 
--- the edits that rewrite lines, where this is asked for
-abbrev pub start_edits : Bool → List (List ℕ) → List ℕ → GatheredView → List EditView
-start_edits rewrite folders root gathered = rewriting_edits rewrite folders root (without_includes gathered)
+-- the path at which the root was found: that of the first file
+abbrev pub home_of : Texts → List ℕ → List ℕ
+home_of [] root = root
+home_of (file ∷ others) root = file.0
 
--- the files that are settled: without these include lines, and rewritten where this is asked for
-abbrev pub start_files : Bool → List (List ℕ) → List ℕ → GatheredView → Texts
-start_files rewrite folders root gathered = rewritten_files rewrite folders root (without_includes gathered)
+-- where gathered files are
+abbrev pub around_of : List (List ℕ) → List ℕ → GatheredView → Around
+around_of folders root gathered = record { folders = folders; names = gathered.names; root = root; home = home_of gathered.files root }
+
+-- the files that are settled: without the include lines that are left out, and rewritten where this
+-- is asked for
+abbrev pub start : Bool → List (List ℕ) → List ℕ → GatheredView → RewrittenView
+start rewrite folders root gathered = rewritten rewrite (around_of folders root gathered) (without_includes gathered)
 
 -- the files as they are written: the lines that were found faulty are comments, each of the line as
--- it was, and the others are rewritten by these edits
-abbrev pub finished : List EditView → List FaultyLineView → GatheredView → Texts
-finished edits found gathered = edited_files (edits ++ map fault_edit found) (without_includes gathered)
+-- it was, and the others are rewritten
+abbrev pub finished : RewrittenView → List FaultyLineView → GatheredView → Texts
+finished new found gathered = edited_files (new.edits ++ map fault_edit found) (without_includes gathered ++ new.made)
+
+-- the names of gathered files, and of those that are made
+abbrev pub all_names : RewrittenView → GatheredView → List (List ℕ)
+all_names new gathered = gathered.names ++ map (λ file. made_name) new.made
 
 -- ---- Where the files are written
 
@@ -103,12 +114,14 @@ pub record IsCutOf (rewrite : Bool) (folders : List (List ℕ)) (gathered : Gath
   pub settled : Texts
   pub found : List FaultyLineView
   pub lines : List LineView
-  pub settles : IsSettled folders root (start_files rewrite folders root gathered) settled found lines
-  pub files_are : map file_view cut.files.items ≡ written_files dir gathered.names (finished (start_edits rewrite folders root gathered) found gathered)
-  pub paths_are : map string_bytes cut.paths.items ≡ map (λ file. file.0) gathered.files
+  pub settles : IsSettled folders root (start rewrite folders root gathered).files settled found lines
+  pub files_are :
+      map file_view cut.files.items
+      ≡ written_files dir (all_names (start rewrite folders root gathered) gathered) (finished (start rewrite folders root gathered) found gathered)
+  pub paths_are : map string_bytes cut.paths.items ≡ map (λ file. file.0) (gathered.files ++ (start rewrite folders root gathered).made)
   pub left_out_are : map faulty_line_view cut.left_out.items ≡ map include_fault gathered.left_out ++ found
   pub kept_are : map string_bytes cut.line_files.items ≡ map (λ line. line.file) lines
-  pub rewritten_is : cut.rewritten ≡ count_rewritten (start_edits rewrite folders root gathered) lines
+  pub rewritten_is : cut.rewritten ≡ count_rewritten (start rewrite folders root gathered).edits lines
 
 -- these files, which have their paths in the folder, define no table, and this is why
 abbrev pub IsUnwritten : Texts → List ℕ → List ℕ → CutFault → Type 0
@@ -125,7 +138,7 @@ IsCut rewrite gives root dir of =
 -- files that were gathered can't be settled, or what is written is no table
 abbrev pub IsUncut : Bool → List (List ℕ) → List ℕ → List ℕ → GatheredView → CutFault → Type 0
 IsUncut rewrite folders root dir gathered (Gather why) = ⊥
-IsUncut rewrite folders root dir gathered (Load why) = IsUnsettled folders root (start_files rewrite folders root gathered) why
+IsUncut rewrite folders root dir gathered (Load why) = IsUnsettled folders root (start rewrite folders root gathered).files why
 IsUncut rewrite folders root dir gathered (NotRead why) =
     (cut : Cut) × IsCutOf rewrite folders gathered root dir cut × IsUnreadAs (map file_view cut.files.items) (written_root dir root) why
 

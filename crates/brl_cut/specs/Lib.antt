@@ -2,9 +2,13 @@ pub mod Contractions
 pub mod Cuts
 pub mod Edits
 pub mod Files
+pub mod LetsignViews
+pub mod Letsigns
 pub mod Marks
 pub mod Putting
 pub mod Rewriting
+pub mod RewritingViews
 pub mod Rounds
 pub mod Settling
+pub mod Signs
 pub mod Skipping

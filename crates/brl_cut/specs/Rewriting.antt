@@ -1,9 +1,10 @@
 -- Lines that are rewritten, so that they are read. A line is rewritten by what is put before it: a
 -- line that is read, and the mark of a comment. The project's own choice.
-use Rattle.std.specs.Prelude.{ℕ, Bool, nat_eq, if◌then◌else◌, List, [], ◌∷◌, ◌++◌, codes, filter, flat_map, fold, is_some, length, map, option_map, Option, Some, None, Result, Ok, Err}
+use Rattle.std.specs.Prelude.{ℕ, Bool, ◌&&◌, nat_eq, not, if◌then◌else◌, List, [], ◌∷◌, ◌++◌, codes, filter, flat_map, fold, is_some, length, map, option_map, Option, Some, None, Result, Ok, Err}
 use Rattle.std.specs.List.{list_any}
 use Rattle.std.specs.Map.{lookup}
 use Rattle.std.specs.Option.{option_and_then, option_map_or}
+use Rattle.std.specs.Result.{is_ok}
 use Rattle.std.specs.Str.{bytes_eq}
 use Rattle.brl_cells.specs.Dots.{spelling}
 use Rattle.brl_lines.specs.Escapes.{characters_of}
@@ -14,10 +15,12 @@ use Rattle.brl_rules.specs.declared.rule.Info.{Info}
 use Rattle.brl_table.specs.Survey.{good_characters}
 use Rattle.brl_cut.specs.Contractions.{contraction_edits}
 use Rattle.brl_cut.specs.Edits.{EditView, Texts, edited_files, is_of}
+use Rattle.brl_cut.specs.Letsigns.{include_edit, is_taken, known_of, made_file, sign_edits}
 use Rattle.brl_cut.specs.Putting.{edit_if_put, line_in_place, words_in_place}
 use Rattle.brl_cut.specs.Settling.{lines_among}
+use Rattle.brl_cut.specs.Signs.{SignView, letsign_of}
 use Rattle.brl_cut.specs.declared.rewriting.Form.{Form}
-use Rattle.brl_cut.specs.declared.rewriting.Form.TheVariants.{Noback, Base, Contraction}
+use Rattle.brl_cut.specs.declared.rewriting.Form.TheVariants.{Noback, Base}
 
 -- ---- Lines that begin with `noback`
 
@@ -92,7 +95,6 @@ known_lines folders root files = lines_or_none (lines_among folders files root)
 abbrev pub edits_of_form : Form → List LineView → List EditView
 edits_of_form Noback lines = noback_edits lines
 edits_of_form Base lines = base_edits lines
-edits_of_form Contraction lines = contraction_edits lines
 
 -- the edits that rewrite lines of a form in these files, and the files after them
 abbrev pub step_edits : List (List ℕ) → List ℕ → Form → Texts → List EditView
@@ -109,16 +111,74 @@ steps_edits folders root (form ∷ forms) files = step_edits folders root form f
 abbrev pub after_steps : List (List ℕ) → List ℕ → List Form → Texts → Texts
 after_steps folders root forms files = fold (λ texts form. after_step folders root form texts) files forms
 
--- the steps, where rewriting is asked for
-abbrev pub forms_if : Bool → List Form
-forms_if rewrite = if rewrite then Noback ∷ Base ∷ Contraction ∷ [] else []
+-- ---- The last step: `contraction` and `letsign`
 
--- the edits that rewrite lines of these files, where this is asked for, and the files after them
-abbrev pub rewriting_edits : Bool → List (List ℕ) → List ℕ → Texts → List EditView
-rewriting_edits rewrite folders root files = steps_edits folders root (forms_if rewrite) files
+-- where the files of a table are: the folders in which they are looked for, their names, the path
+-- of the root, and that at which the root was found
+pub record Around : Type 0 where
+  pub folders : List (List ℕ)
+  pub names : List (List ℕ)
+  pub root : List ℕ
+  pub home : List ℕ
 
-abbrev pub rewritten_files : Bool → List (List ℕ) → List ℕ → Texts → Texts
-rewritten_files rewrite folders root files = after_steps folders root (forms_if rewrite) files
+-- edits of files, and files that are made
+pub record Change : Type 0 where
+  pub edits : List EditView
+  pub made : Texts
+
+abbrev pub changed : Change → Texts → Texts
+changed change files = edited_files change.edits (files ++ change.made)
+
+-- of the `contraction` lines alone
+abbrev pub contraction_change : List LineView → Change
+contraction_change lines = record { edits = contraction_edits lines; made = [] }
+
+-- and of the line that gives this sign
+abbrev pub sign_change : List ℕ → List LineView → SignView → Change
+sign_change root lines sign =
+    let known = known_of lines sign in
+    record { edits = contraction_edits lines ++ include_edit sign ∷ sign_edits known lines; made = made_file root known lines ∷ [] }
+
+-- a change may be made that makes a file: none has its name or its path, and the table can be
+-- loaded after it
+abbrev pub may_change : Around → Texts → Change → Bool
+may_change around files change = not (is_taken around.names around.home files) && is_ok (lines_among around.folders (changed change files) around.root)
+
+abbrev pub change_to : Around → Texts → List LineView → SignView → Change
+change_to around files lines sign = if may_change around files (sign_change around.home lines sign) then sign_change around.home lines sign else contraction_change lines
+
+abbrev pub change_by : Around → Texts → List LineView → Option SignView → Change
+change_by around files lines (Some sign) = change_to around files lines sign
+change_by around files lines None = contraction_change lines
+
+abbrev pub last_change : Around → Texts → List LineView → Change
+last_change around files lines = change_by around files lines (letsign_of lines)
+
+-- ---- All steps
+
+-- files that are rewritten: all edits, the files that are made, and the files after that
+pub record RewrittenView : Type 0 where
+  pub edits : List EditView
+  pub made : Texts
+  pub files : Texts
+
+-- files after edits, and after one change more
+abbrev pub then_changed : List EditView → Texts → Change → RewrittenView
+then_changed edits files change = record { edits = edits ++ change.edits; made = change.made; files = changed change files }
+
+abbrev pub steps : List Form
+steps = Noback ∷ Base ∷ []
+
+abbrev pub with_last_change : Around → List EditView → Texts → RewrittenView
+with_last_change around edits files = then_changed edits files (last_change around files (known_lines around.folders around.root files))
+
+-- these files rewritten, where this is asked for
+abbrev pub rewritten : Bool → Around → Texts → RewrittenView
+rewritten rewrite around files =
+    if rewrite then with_last_change around (steps_edits around.folders around.root steps files) (after_steps around.folders around.root steps files)
+    else record { edits = []; made = []; files = files }
+
+-- ---- How many
 
 -- whether the line at a place is rewritten
 abbrev pub is_rewritten : List EditView → LocationView → Bool

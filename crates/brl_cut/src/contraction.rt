@@ -1,15 +1,16 @@
 //! Lines that begin with `contraction`: each is read as the `word` line of its characters, with the
 //! cells of two indicators before theirs.
-ghost use Rattle.std.specs.Prelude.{◌≡◌, [], ◌∷◌, ◌++◌, IfOk, OnOk, codes, flat_map, map};
+ghost use Rattle.std.specs.Prelude.{◌≡◌, [], ◌∷◌, ◌++◌, IfOk, OnOk, codes, flat_map, map, option_map};
 ghost use Rattle.std.specs.List.{list_all};
 ghost use Rattle.brl_lines.specs.Views.{line_view, token_view};
-ghost use Rattle.brl_cut.specs.Contractions.{contraction_cells as contraction_cells_by, contraction_edit, contraction_edits, edit_of_operands, edit_to_rule, is_small as is_small_by, may_be_rule as may_be_rule_by};
+ghost use Rattle.brl_cut.specs.Contractions.{cells_before, contraction_cells as contraction_cells_by, contraction_edit, edit_of_operands, edit_to_rule, is_small as is_small_by, may_be_rule as may_be_rule_by};
 ghost use Rattle.brl_cut.specs.Files.{edit_view};
-ghost use Rattle.brl_cut.specs.Putting.{edit_to, words_in_place as words_in_place_by};
+ghost use Rattle.brl_cut.specs.Signs.{sign_view};
+ghost use Rattle.brl_table.specs.Survey.{good_characters as good_characters_by};
 
 use crate::files::Edit;
-use crate::putting::{push_put, words_in_place};
-use crate::signs::sign_cells;
+use crate::putting::push_words;
+use crate::signs::{Sign, sign_cells};
 use brl_cells::{Cell, write_dots};
 use brl_failure::Failure;
 use brl_lines::{Line, Token, chars_of};
@@ -23,10 +24,28 @@ const MOST_CELLS: usize = 16;
 
 /// What lines give contractions.
 #[derive(Drop)]
-struct Given {
-    characters: IndexMap<char, Info>,
+pub(crate) struct Given {
+    pub characters: IndexMap<char, Info>,
     /// The cells before those of the characters.
-    signs: Vec<Cell>,
+    pub signs: Vec<Cell>,
+}
+
+impl Given {
+    /// The characters that lines define, and the cells of their indicators, where this sign is that
+    /// before a letter.
+    pub fn of_lines(
+        alloc: Global,
+        lines: &[Line<'_>],
+        letsign: &Option<Sign<'_>>,
+    ) -> Result<Given, AllocError>
+        ensures characters { IfOk result (λ given. given.characters.entries ≡ good_characters_by (map line_view lines.now)) }
+        ensures signs { IfOk result (λ given. given.signs.items ≡ cells_before (map line_view lines.now) (option_map sign_view letsign.now)) }
+    {
+        Ok(Given {
+            characters: good_characters(alloc, lines)?,
+            signs: sign_cells(alloc, lines, letsign)?,
+        })
+    }
 }
 
 /// Whether a character is one of these, and no capital.
@@ -49,7 +68,7 @@ fn are_small(characters: &IndexMap<char, Info>, chars: &[char]) -> bool
 }
 
 /// The cells of a contraction: these, and those of its characters.
-fn contraction_cells(
+pub(crate) fn contraction_cells(
     alloc: Global,
     characters: &IndexMap<char, Info>,
     signs: &[Cell],
@@ -73,20 +92,6 @@ fn may_be_rule(characters: &IndexMap<char, Info>, chars: &[char], cells: &[Cell]
     are_small(characters, chars) && cells.len() <= MOST_CELLS
 }
 
-/// Adds the edit that puts the `word` line of a word before a line, with these dots.
-fn push_word(
-    alloc: Global,
-    edits: &mut Vec<Edit>,
-    line: &Line<'_>,
-    word: &str,
-    dots: &str,
-) -> Result<(), AllocError>
-    ensures { OnOk result (map edit_view edits.new.items ≡ map edit_view edits.old.items ++ edit_to (words_in_place_by (line_view line.now) (codes "word") word.now dots.now) ∷ []) }
-{
-    let new = words_in_place(alloc, line, "word", word, dots)?;
-    push_put(alloc, edits, &new)
-}
-
 /// Adds the edit of a contraction of these characters, as a word spells them.
 fn push_chars(
     alloc: Global,
@@ -103,7 +108,7 @@ fn push_chars(
     let cells = contraction_cells(alloc, characters, given.signs.as_slice(), chars)?;
     if may_be_rule(characters, chars, cells.as_slice()) {
         let dots = write_dots(alloc, cells.as_slice())?;
-        push_word(alloc, edits, line, word, dots.as_str())?;
+        push_words(alloc, edits, line, "word", word, dots.as_str())?;
     }
     Ok(())
 }
@@ -144,8 +149,12 @@ fn push_contraction(
     Ok(())
 }
 
-/// The edits of lines that begin with `contraction`, with what is given.
-fn edits_with(alloc: Global, given: &Given, lines: &[Line<'_>]) -> Result<Vec<Edit>, AllocError>
+/// The edits of lines that begin with `contraction`.
+pub(crate) fn contraction_edits(
+    alloc: Global,
+    given: &Given,
+    lines: &[Line<'_>],
+) -> Result<Vec<Edit>, AllocError>
     ensures { IfOk result (λ edits. map edit_view edits.items ≡ flat_map (contraction_edit given.now.characters.entries given.now.signs.items) (map line_view lines.now)) }
 {
     let mut edits = Vec::new(alloc);
@@ -153,19 +162,4 @@ fn edits_with(alloc: Global, given: &Given, lines: &[Line<'_>]) -> Result<Vec<Ed
         push_contraction(alloc, &mut edits, given, line)?;
     }
     Ok(edits)
-}
-
-/// The edits of lines that begin with `contraction`, with the characters and the indicators that
-/// these lines define.
-pub(crate) fn contraction_of_lines(
-    alloc: Global,
-    lines: &[Line<'_>],
-) -> Result<Vec<Edit>, AllocError>
-    ensures { IfOk result (λ edits. map edit_view edits.items ≡ contraction_edits (map line_view lines.now)) }
-{
-    let given = Given {
-        characters: good_characters(alloc, lines)?,
-        signs: sign_cells(alloc, lines)?,
-    };
-    edits_with(alloc, &given, lines)
 }

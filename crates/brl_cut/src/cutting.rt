@@ -1,20 +1,24 @@
 //! The readable part of a table.
-ghost use Rattle.std.specs.Prelude.{◌≡◌, IfErr, IfOk, OnOk, map, string_bytes};
+ghost use Rattle.std.specs.Prelude.{◌≡◌, ◌++◌, IfErr, IfOk, OnOk, map, string_bytes};
 ghost use Rattle.brl_failure.specs.Failure.{GivesAs, IfFault};
 ghost use Rattle.brl_lines.specs.GatherFaults.{gathered_view};
 ghost use Rattle.brl_lines.specs.Views.{load_fault_view, location_view};
-ghost use Rattle.brl_cut.specs.Cuts.{IsCut, IsCutFault, IsCutOf, IsRead, IsReadAs, IsUncut, IsUnreadAs, IsUnwritten, finished, start_edits, start_files, without_includes, written_root as written_root_of};
-ghost use Rattle.brl_cut.specs.Marks.{marked_files};
+ghost use Rattle.brl_cut.specs.Cuts.{IsCut, IsCutFault, IsCutOf, IsRead, IsReadAs, IsUncut, IsUnreadAs, IsUnwritten, all_names as all_names_of, finished, home_of as home_by, without_includes, written_root as written_root_of};
+ghost use Rattle.brl_cut.specs.Letsigns.{made_name};
+ghost use Rattle.brl_cut.specs.Marks.{mark, marked_file, marked_files};
+ghost use Rattle.brl_cut.specs.RewritingViews.{rewritten_view};
 ghost use Rattle.brl_table.specs.Survey.{faulty_line_view};
+ghost use Rattle.brl_cut.specs.Edits.{edited_files};
 ghost use Rattle.brl_cut.specs.Files.{edit_view, file_view};
-ghost use Rattle.brl_cut.specs.Settling.{lines_among};
+ghost use Rattle.brl_cut.specs.Settling.{fault_edit, lines_among};
 
 use crate::files::{
-    BecomesComment, Edit, edit_files, edits_of, load_files, source_of, with_comments,
+    BecomesComment, Edit, copies, edit_bytes, edit_files, edits_of, load_files, source_of,
+    with_comments,
 };
 use crate::includes::include_faults;
 use crate::placing::{place_files, written_root};
-use crate::rewriting::{Rewritten, count_rewritten, rewrite_files};
+use crate::rewriting::{Around, MADE_NAME, Rewritten, count_rewritten, rewrite_files};
 use crate::rounds::{Settled, settle};
 use brl_failure::{Failure, raise};
 use brl_lines::{GatherFault, Gathered, GatheredFile, LoadFault, Loaded, Location, Source, gather};
@@ -43,17 +47,6 @@ pub struct CutTable {
     pub gathered: Gathered,
     pub cut: Cut,
     pub table: Table,
-}
-
-/// The paths of files.
-fn paths_of(alloc: Global, files: &[GatheredFile]) -> Result<Vec<String>, AllocError>
-    ensures { IfOk result (λ paths. map string_bytes paths.items ≡ map (λ file. file.0) (map file_view files.now)) }
-{
-    let mut paths = Vec::with_capacity(alloc, files.len())?;
-    for file in files {
-        paths.push(String::from_str(alloc, file.path.as_str())?)?;
-    }
-    Ok(paths)
 }
 
 /// The table whose root is at a path, of these files and no others, which are looked for in no
@@ -90,11 +83,7 @@ pub fn load_whole(
 ) -> Result<Loaded, Failure<LoadFault>>
     ensures { GivesAs (λ loaded. loaded.lines) load_fault_view (lines_among (map string_bytes folders.now) (without_includes (gathered_view gathered.now)) root.now) result }
 {
-    let files = with_comments(
-        alloc,
-        gathered.files.as_slice(),
-        gathered.left_out.as_slice(),
-    )?;
+    let files = without_left_out(alloc, gathered)?;
     load_files(alloc, folders, files.as_slice(), root)
 }
 
@@ -109,43 +98,66 @@ fn files_of_places(alloc: Global, places: &[Location]) -> Result<Vec<String>, Al
     Ok(paths)
 }
 
-/// Gathered files without the include lines that are left out, and with lines rewritten where this
-/// is asked for.
-fn rewrite_gathered(
+/// Adds the paths of files.
+fn push_paths(
     alloc: Global,
-    folders: &[String],
-    gathered: &Gathered,
-    root: &str,
-    rewrite: bool,
-) -> Result<Rewritten, AllocError>
-    ensures files { IfOk result (λ new. map file_view new.files.items ≡ start_files rewrite (map string_bytes folders.now) root.now (gathered_view gathered.now)) }
-    ensures edits { IfOk result (λ new. map edit_view new.edits.items ≡ start_edits rewrite (map string_bytes folders.now) root.now (gathered_view gathered.now)) }
+    paths: &mut Vec<String>,
+    files: &[GatheredFile],
+) -> Result<(), AllocError>
+    ensures { OnOk result (map string_bytes paths.new.items ≡ map string_bytes paths.old.items ++ map (λ file. file.0) (map file_view files.now)) }
 {
-    let files = with_comments(
-        alloc,
-        gathered.files.as_slice(),
-        gathered.left_out.as_slice(),
-    )?;
-    rewrite_files(alloc, folders, files, root, rewrite)
+    for file in files {
+        paths.push(String::from_str(alloc, file.path.as_str())?)?;
+    }
+    Ok(())
 }
 
-/// Gathered files as they are written: the lines that were found faulty are comments, each of the
-/// line as it was, and the others are rewritten by these edits.
+/// The paths of gathered files, and of those that were made.
+fn all_paths(
+    alloc: Global,
+    files: &[GatheredFile],
+    made: &[GatheredFile],
+) -> Result<Vec<String>, AllocError>
+    ensures { IfOk result (λ paths. map string_bytes paths.items ≡ map (λ file. file.0) (map file_view files.now ++ map file_view made.now)) }
+{
+    let mut paths = Vec::new(alloc);
+    push_paths(alloc, &mut paths, files)?;
+    push_paths(alloc, &mut paths, made)?;
+    Ok(paths)
+}
+
+/// The names of gathered files, and of those that were made.
+fn all_names(
+    alloc: Global,
+    names: &[String],
+    made: &[GatheredFile],
+) -> Result<Vec<String>, AllocError>
+    ensures { IfOk result (λ all. map string_bytes all.items ≡ map string_bytes names.now ++ map (λ file. made_name) (map file_view made.now)) }
+{
+    let mut all = copies(alloc, names)?;
+    for _made in made {
+        all.push(String::from_str(alloc, MADE_NAME)?)?;
+    }
+    Ok(all)
+}
+
+/// Gathered files, and those that were made, as they are written: the lines that were found faulty
+/// are comments, each of the line as it was, and the others are rewritten by these edits.
 fn finish_files(
     alloc: Global,
     gathered: &Gathered,
+    made: &[GatheredFile],
     mut edits: Vec<Edit>,
     found: &[FaultyLine],
 ) -> Result<Vec<GatheredFile>, AllocError>
-    ensures { IfOk result (λ files. map file_view files.items ≡ finished (map edit_view edits.items) (map faulty_line_view found.now) (gathered_view gathered.now)) }
+    ensures { IfOk result (λ new. map file_view new.items ≡
+        edited_files (map edit_view edits.items ++ map fault_edit (map faulty_line_view found.now)) (without_includes (gathered_view gathered.now) ++ map file_view made.now)) }
 {
-    let files = with_comments(
-        alloc,
-        gathered.files.as_slice(),
-        gathered.left_out.as_slice(),
-    )?;
     edits.append(&mut edits_of(alloc, found)?)?;
-    edit_files(alloc, files.as_slice(), edits.as_slice())
+    let files = without_left_out(alloc, gathered)?;
+    let mut new = edit_files(alloc, files.as_slice(), edits.as_slice())?;
+    new.append(&mut edit_files(alloc, made, edits.as_slice())?)?;
+    Ok(new)
 }
 
 /// The table whose root has a path, with the lines that aren't read as comments, for the folder
@@ -164,7 +176,17 @@ fn finish_files(
 /// that the small letter D has by other lines; and then before a line `contraction X`, where each
 /// character of X is defined and none is a capital, `word X` with the dots of the first
 /// `nocontractsign` line, those of the last `letsign` line and those of the characters, if these
-/// are 16 cells or fewer. A line that is rewritten and then left out is written as it was.
+/// are 16 cells or fewer.
+///
+/// The last `letsign` line whose dots are read becomes an include line of a file that is made
+/// beside the root, `letsign-made.cti`. It has a `word` line for each letter before which the sign
+/// may be (`brl_acting::Letters`): with the dots of the sign and those of the first `always`,
+/// `sufword` or `prfword` line of this letter alone, else its own; where that line is a
+/// `contraction`, with the dots of this. A `word`, `sufword` or `begword` line that begins with
+/// such a letter and a character that is no letter gets the dots of the sign, too. So it is where
+/// no file has the path or the name of the one that is made, and where the table can be loaded
+/// after it. The made file is the last one of the cut. A line that is rewritten and then left out
+/// is written as it was.
 pub fn cut_table<S: Source>(
     alloc: Global,
     source: &mut S,
@@ -196,11 +218,11 @@ pub fn mark_lines(
     dir: &str,
     places: &[Location],
 ) -> Result<Vec<GatheredFile>, Failure<CutFault>>
-    ensures files { IfOk result (λ files. map file_view files.items ≡ marked_files dir.now (map location_view places.now) of.now) }
-    ensures read { OnOk result (IsRead (marked_files dir.now (map location_view places.now) of.now) (written_root_of dir.now root.now)) }
-    ensures fault { IfErr result (IfFault (IsUnwritten (marked_files dir.now (map location_view places.now) of.now) root.now dir.now)) }
+    ensures files { IfOk result (λ files. map file_view files.items ≡ marked_files (map location_view places.now) of.now) }
+    ensures read { OnOk result (IsRead (marked_files (map location_view places.now) of.now) (written_root_of dir.now root.now)) }
+    ensures fault { IfErr result (IfFault (IsUnwritten (marked_files (map location_view places.now) of.now) root.now dir.now)) }
 {
-    let files = mark_files(alloc, of, dir, places)?;
+    let files = mark_files(alloc, of, places)?;
     check_written(alloc, files.as_slice(), root, dir)?;
     Ok(files)
 }
@@ -219,19 +241,36 @@ fn check_written(
     Ok(())
 }
 
-/// The files of a cut for a folder, with marks before the lines at these places.
+/// A file with these marks, where it had this path before it was cut.
+fn mark_file(
+    alloc: Global,
+    marks: &[Edit],
+    before: &str,
+    file: &GatheredFile,
+) -> Result<GatheredFile, AllocError>
+    ensures { IfOk result (λ new. file_view new ≡ marked_file (map edit_view marks.now) (before.now, file_view file.now)) }
+{
+    Ok(GatheredFile {
+        path: String::from_str(alloc, file.path.as_str())?,
+        bytes: edit_bytes(alloc, file.bytes.as_slice(), marks, before)?,
+    })
+}
+
+/// The files of a cut, with marks before the lines at these places.
 fn mark_files(
     alloc: Global,
     of: &CutTable,
-    dir: &str,
     places: &[Location],
 ) -> Result<Vec<GatheredFile>, AllocError>
-    ensures { IfOk result (λ files. map file_view files.items ≡ marked_files dir.now (map location_view places.now) of.now) }
+    ensures { IfOk result (λ files. map file_view files.items ≡ marked_files (map location_view places.now) of.now) }
 {
+    let marks = edits_of(alloc, places)?;
     let Cut { files, paths, .. } = &of.cut;
-    let before = place_files(alloc, "", paths.as_slice(), files.as_slice())?;
-    let marked = with_comments(alloc, before.as_slice(), places)?;
-    place_files(alloc, dir, of.gathered.names.as_slice(), marked.as_slice())
+    let mut marked = Vec::with_capacity(alloc, files.len())?;
+    for (path, file) in paths.iter().zip(files) {
+        marked.push(mark_file(alloc, marks.as_slice(), path.as_str(), file)?)?;
+    }
+    Ok(marked)
 }
 
 impl BecomesComment for Location {
@@ -246,31 +285,61 @@ impl BecomesComment for Location {
     }
 }
 
+/// Gathered files without the include lines that are left out.
+fn without_left_out(alloc: Global, gathered: &Gathered) -> Result<Vec<GatheredFile>, AllocError>
+    ensures { IfOk result (λ files. map file_view files.items ≡ without_includes (gathered_view gathered.now)) }
+{
+    with_comments(
+        alloc,
+        gathered.files.as_slice(),
+        gathered.left_out.as_slice(),
+    )
+}
+
+/// The path at which the root of these files was found: that of the first one.
+fn home_of<'a>(files: &'a [GatheredFile], root: &'a str) -> &'a str
+    ensures { result.now ≡ home_by (map file_view files.entry.now) root.entry.now }
+{
+    match files {
+        [first, ..] => first.path.as_str(),
+        [] => root,
+    }
+}
+
 /// Cuts a table whose files are gathered, and were looked for in these folders too.
-fn cut_gathered(
+fn cut_gathered<'a>(
     alloc: Global,
-    folders: &[String],
-    gathered: &Gathered,
-    root: &str,
+    folders: &'a [String],
+    gathered: &'a Gathered,
+    root: &'a str,
     dir: &str,
     rewrite: bool,
 ) -> Result<Cut, Failure<CutFault>>
-    ensures cut { IfOk result (IsCutOf rewrite (map string_bytes folders.now) (gathered_view gathered.now) root.now dir.now) }
-    ensures fault { IfErr result (IfFault (IsUncut rewrite (map string_bytes folders.now) root.now dir.now (gathered_view gathered.now))) }
+    ensures cut { IfOk result (IsCutOf rewrite (map string_bytes folders.entry.now) (gathered_view gathered.entry.now) root.entry.now dir.now) }
+    ensures fault { IfErr result (IfFault (IsUncut rewrite (map string_bytes folders.entry.now) root.entry.now dir.now (gathered_view gathered.entry.now))) }
 {
-    let new = rewrite_gathered(alloc, folders, gathered, root, rewrite)?;
-    let settled = raise(settle(alloc, folders, new.files, root), CutFault::Load)?;
-    let rewritten = count_rewritten(new.edits.as_slice(), settled.places.as_slice());
-    let names = gathered.names.as_slice();
-    let texts = finish_files(alloc, gathered, new.edits, settled.found.as_slice())?;
-    let files = place_files(alloc, dir, names, texts.as_slice())?;
+    let all = gathered.files.as_slice();
+    let around = Around {
+        folders,
+        names: gathered.names.as_slice(),
+        root,
+        home: home_of(all, root),
+    };
+    let start = without_left_out(alloc, gathered)?;
+    let Rewritten { files, edits, made } = rewrite_files(alloc, around, start, rewrite)?;
+    let settled = raise(settle(alloc, folders, files, root), CutFault::Load)?;
+    let rewritten = count_rewritten(edits.as_slice(), settled.places.as_slice());
+    let made = made.as_slice();
+    let names = all_names(alloc, gathered.names.as_slice(), made)?;
+    let paths = all_paths(alloc, gathered.files.as_slice(), made)?;
+    let texts = finish_files(alloc, gathered, made, edits, settled.found.as_slice())?;
+    let placed = place_files(alloc, dir, names.as_slice(), texts.as_slice())?;
     let mut left_out = include_faults(alloc, gathered.left_out.as_slice())?;
     let Settled { mut found, places } = settled;
     left_out.append(&mut found)?;
     let line_files = files_of_places(alloc, places.as_slice())?;
-    let paths = paths_of(alloc, gathered.files.as_slice())?;
     Ok(Cut {
-        files,
+        files: placed,
         paths,
         left_out,
         line_files,

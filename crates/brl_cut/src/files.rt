@@ -2,7 +2,7 @@
 ghost use Rattle.std.specs.Prelude.{◌≡◌, IfOk, List, [], ◌∷◌, map, string_bytes};
 ghost use Rattle.brl_failure.specs.Failure.{GivesAs};
 ghost use Rattle.brl_lines.specs.Views.{load_fault_view};
-ghost use Rattle.brl_cut.specs.Edits.{edited_files, prefix_in};
+ghost use Rattle.brl_cut.specs.Edits.{edited as edited_bytes, edited_files, prefix_in};
 ghost use Rattle.brl_cut.specs.Files.{HasPrefixes, HoldsFiles, edit_view, file_view};
 ghost use Rattle.brl_cut.specs.Settling.{lines_among};
 
@@ -76,15 +76,27 @@ fn prefixes_of<'a>(
     Ok(prefixes)
 }
 
+/// The bytes of the file at a path after edits.
+pub(crate) fn edit_bytes(
+    alloc: Global,
+    bytes: &[u8],
+    edits: &[Edit],
+    path: &str,
+) -> Result<Vec<u8>, AllocError>
+    ensures { IfOk result (λ new. new.items ≡ edited_bytes (prefix_in (map edit_view edits.now) path.now) bytes.now) }
+{
+    let prefixes = prefixes_of(alloc, edits, path)?;
+    edited(alloc, bytes, &prefixes)
+}
+
 /// A file after edits.
 fn edit_file(alloc: Global, file: &GatheredFile, edits: &[Edit]) -> Result<GatheredFile, AllocError>
     ensures { IfOk result (λ new. edited_files (map edit_view edits.now) (file_view file.now ∷ []) ≡ file_view new ∷ []) }
 {
     let path = file.path.as_str();
-    let prefixes = prefixes_of(alloc, edits, path)?;
     Ok(GatheredFile {
         path: String::from_str(alloc, path)?,
-        bytes: edited(alloc, file.bytes.as_slice(), &prefixes)?,
+        bytes: edit_bytes(alloc, file.bytes.as_slice(), edits, path)?,
     })
 }
 
@@ -116,7 +128,7 @@ pub(crate) fn with_comments<L: BecomesComment>(
 }
 
 /// Copies of texts.
-fn copies(alloc: Global, texts: &[String]) -> Result<Vec<String>, AllocError>
+pub(crate) fn copies(alloc: Global, texts: &[String]) -> Result<Vec<String>, AllocError>
     ensures { IfOk result (λ others. map string_bytes others.items ≡ map string_bytes texts.now) }
 {
     let mut others = Vec::with_capacity(alloc, texts.len())?;

@@ -3,7 +3,7 @@
 //! `cut_table` gathers the files of a table, makes the lines that aren't read comments, each in its
 //! place, and gives the files with the paths where they are to be written. `text` puts text before
 //! lines, `files` has files in memory and edits of their lines, `rewriting` rewrites lines
-//! (`noback`, `base` and `contraction` have the three forms, `signs` the cells of indicators,
+//! (`noback`, `base`, `contraction` and `letsign` have the forms, `signs` the cells of indicators,
 //! `putting` what is put before a line), `rounds` surveys files until no line is faulty, `includes`
 //! has include lines that are left out, `placing` the paths where files are written, and `cutting`
 //! has the whole, and marks lines of it. `load_without_dictionaries` loads a table without its
@@ -17,6 +17,7 @@ mod contraction;
 mod cutting;
 mod files;
 mod includes;
+mod letsign;
 mod noback;
 mod placing;
 mod putting;

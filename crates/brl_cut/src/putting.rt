@@ -62,17 +62,28 @@ fn is_definition(alloc: Global, line: &Line<'_>) -> Result<bool, AllocError>
 }
 
 /// Adds the edit that puts a line before the one in its place.
-pub(crate) fn push_put(
-    alloc: Global,
-    edits: &mut Vec<Edit>,
-    new: &Line<'_>,
-) -> Result<(), AllocError>
+fn push_put(alloc: Global, edits: &mut Vec<Edit>, new: &Line<'_>) -> Result<(), AllocError>
     ensures { OnOk result (map edit_view edits.new.items ≡ map edit_view edits.old.items ++ edit_to (line_view new.now) ∷ []) }
 {
     let mut prefix = line_text(alloc, new)?;
     prefix.push_str(" # ")?;
     edits.push(Edit::new(alloc, new.file, new.line, prefix)?)?;
     Ok(())
+}
+
+/// Adds the edit that puts a line of three words before a line.
+pub(crate) fn push_words(
+    alloc: Global,
+    edits: &mut Vec<Edit>,
+    line: &Line<'_>,
+    opcode: &str,
+    first: &str,
+    second: &str,
+) -> Result<(), AllocError>
+    ensures { OnOk result (map edit_view edits.new.items ≡ map edit_view edits.old.items ++ edit_to (words_in_place_by (line_view line.now) opcode.now first.now second.now) ∷ []) }
+{
+    let new = words_in_place(alloc, line, opcode, first, second)?;
+    push_put(alloc, edits, &new)
 }
 
 /// Adds the edit that puts a line before the one in its place, where it may be put.

@@ -76,13 +76,13 @@ IsActingAnswer rewrite path dir alphabet cut acting texts answer =
 -- these are the files of a cut, where the lines that are left out and can act are marked; and they
 -- define a table
 abbrev pub AreMarked : List ℕ → List ℕ → CutTable → List ActingView → Texts → Type 0
-AreMarked path dir of acting texts = (texts ≡ marked_files dir (left_out_places acting) of) × IsRead texts (written_root dir path)
+AreMarked path dir of acting texts = (texts ≡ marked_files (left_out_places acting) of) × IsRead texts (written_root dir path)
 
 -- the cut is answered with these lines, which can act; or, which never comes, its files define no
 -- table once lines are marked
 abbrev pub AnswersOver : Bool → List ℕ → List ℕ → AlphabetView → CutTable → List ActingView → Result Answer RunFault → Type 0
 AnswersOver rewrite path dir alphabet of acting outcome =
-    Then (AreMarked path dir of acting) (EndsAs of_cut_fault (IsUnwritten (marked_files dir (left_out_places acting) of) path dir))
+    Then (AreMarked path dir of acting) (EndsAs of_cut_fault (IsUnwritten (marked_files (left_out_places acting) of) path dir))
     (λ texts. UnlessMemory (IsActingAnswer rewrite path dir alphabet of.cut acting texts)) outcome
 
 -- the lines of a cut that can act are found, and answered; or this is why there are none

@@ -13,4 +13,6 @@ returns c =
       capitals = c.in_ok-capitals.ensures j;
       plain_digits = c.in_ok-plain_digits.ensures j;
       literary_digits = c.in_ok-literary_digits.ensures j;
+      letters = c.in_ok-letters.ensures j;
+      noletsigns = c.in_ok-noletsigns.ensures j;
     }

@@ -13,8 +13,8 @@ returns c =
     let bases = c.args.bases.now in
     let facts = c.args.facts in
     let reach : reach_view c.in_ok-reach.reach ≡ reach_by bases c.args.chars.now = c.in_ok-reach.ensures in
-    let classes : classes_view c.in_ok-classes.classes ≡ classes_by pairs (reach_by bases c.args.chars.now).stood =
-    c.in_ok-classes.ensures ∙ (λ j. classes_by pairs (reach j).stood) in
+    let classes : classes_view c.in_ok-classes.classes ≡ classes_by pairs c.args.noletsigns.now (reach_by bases c.args.chars.now).stood =
+    c.in_ok-classes.ensures ∙ (λ j. classes_by pairs c.args.noletsigns.now (reach j).stood) in
     let read : readings_view c.in_ok-read.read ≡ readings_by lines bases (reach_by bases c.args.chars.now).near facts =
     c.in_ok-read.ensures ∙ (λ j. readings_by lines bases (reach j).near facts) in
     λ j. record { reach = reach j; classes = classes j; facts = facts; read = read j }

@@ -10,4 +10,5 @@ returns c =
       has_numsign = c.has.ensures j;
       keeps_word = c.keeps.ensures j;
       keeps_runs = c.keeps_runs.ensures j;
+      letsign = c.letsign_of.ensures j;
     }

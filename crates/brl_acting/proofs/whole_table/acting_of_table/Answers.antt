@@ -1,11 +1,9 @@
-use Rattle.std.proofs.Common.{◌≡◌, ◌∙◌, ◌++◌, IfOk, List, ap, flat_map, map, subst}
-use Rattle.std.proofs.lemmas.Simd.{map-map}
+use Rattle.std.proofs.Common.{◌≡◌, ◌∙◌, ◌++◌, List, ap, flat_map, map}
 use Rattle.brl_lines.specs.GatherFaults.{gathered_view}
 use Rattle.brl_lines.specs.Gathered.{left_view}
-use Rattle.brl_lines.specs.Tokens.{LineView}
 use Rattle.brl_lines.specs.Views.{line_view}
 use Rattle.brl_table.specs.Survey.{faulty_line_view}
-use Rattle.brl_acting.specs.WholeTable.{acting_in, acting_view, continued_places, file_view, left_out_place, missing_lines}
+use Rattle.brl_acting.specs.WholeTable.{ActingView, acting_in, continued_places, file_view, left_out_place, made_lines, missing_lines}
 use Rattle.brl_acting.proofs.whole_table.acting_of_table.Goals as goal
 
 pub returns : goal.returns
@@ -18,5 +16,5 @@ returns c =
     ∙ (λ j. c.in_ok-lines.ensures.lines j ++ missing j) in
     let files : flat_map continued_places (map file_view c.as_slice-3.result.now) ≡ flat_map continued_places gathered.files =
     ap (λ fs. flat_map continued_places (map file_view fs)) c.as_slice-3.ensures.value in
-    subst (λ (ls : List LineView). IfOk c.acting_among.result (λ found. map acting_view found.items ≡ acting_in left (flat_map continued_places gathered.files) ls c.args.alphabet.now)) lines
-    (subst (λ fs. IfOk c.acting_among.result (λ found. map acting_view found.items ≡ acting_in left fs (map line_view c.as_slice-2.result.now) c.args.alphabet.now)) files c.acting_among.ensures)
+    let acting = c.in_ok-found.ensures ∙ (λ j. acting_in left (files j) (lines j) c.args.alphabet.now) in
+    c.in_ok-push_made.ensures ∙ ap (λ (found : List ActingView). found ++ made_lines gathered (map faulty_line_view c.args.left_out.now)) acting

@@ -1,25 +1,24 @@
-use Rattle.std.proofs.Common.{◌≡◌, ◌∙◌, IfOk, List, ℕ, [], ap, map, string_bytes, subst, sym}
+use Rattle.std.proofs.Common.{◌≡◌, ◌∙◌, ◌++◌, ap, append-nil, length, map, min, string_bytes, sym, zip}
 use Rattle.std.proofs.lemmas.Simd.{map-map}
-use Rattle.brl_lines.specs.GatherFaults.{gathered_view}
+use Rattle.std.proofs.lemmas.Slice.Zip.{zip_end}
 use Rattle.brl_lines.specs.Views.{location_view}
-use Rattle.brl_cut.specs.Cuts.{written_files}
-use Rattle.brl_cut.specs.Edits.{EditView, Texts, edited_files}
-use Rattle.brl_cut.specs.Files.{file_view}
-use Rattle.brl_cut.specs.Marks.{files_before, mark}
+use Rattle.brl_cut.specs.Files.{edit_view, file_view}
+use Rattle.brl_cut.specs.Marks.{mark, marked_file}
+use Rattle.brl_cut.proofs.PlaceLemmas.{zip-none}
 use Rattle.brl_cut.proofs.cutting.mark_files.Goals as goal
 
 pub returns : goal.returns
 returns c =
-    let of = c.args.of.now in
-    let dir = c.args.dir.now in
-    let names = (gathered_view of.gathered).names in
-    let edits = map mark (map location_view c.args.places.now) in
-    let before : map file_view c.as_slice-3.result.now ≡ files_before of.cut =
-    ap (map file_view) c.as_slice-3.ensures.value ∙ c.in_ok-before.ensures
-    ∙ (λ j. written_files [] (map string_bytes (c.as_slice.ensures.value j)) (map file_view (c.as_slice-2.ensures.value j))) in
-    let marked : map file_view c.as_slice-5.result.now ≡ edited_files edits (files_before of.cut) =
-    ap (map file_view) c.as_slice-5.ensures.value ∙ c.in_ok-marked.ensures
-    ∙ (λ j. edited_files (sym (map-map mark location_view c.args.places.now) j) (before j)) in
-    subst (λ (files : Texts). IfOk c.place_files-2.result (λ new. map file_view new.items ≡ written_files dir names files)) marked
-    (subst (λ (ns : List (List ℕ)). IfOk c.place_files-2.result (λ new. map file_view new.items ≡ written_files dir ns (map file_view c.as_slice-5.result.now)))
-    (ap (map string_bytes) c.as_slice-4.ensures.value) c.place_files-2.ensures)
+    let paths = c.args.of.now.cut.paths.items in
+    let files = c.args.of.now.cut.files.items in
+    let edits = map edit_view c.in_ok-marks.marks.items in
+    let marks : edits ≡ map mark (map location_view c.args.places.now) = c.in_ok-marks.ensures ∙ sym (map-map mark location_view c.args.places.now) in
+    let before = map file_view c.loop-path.marked.items in
+    let count = length c.loop-path.yielded in
+    let pairs = c.into_iter-path-iterator.ensures.into_iter_gives in
+    let first = ap (λ z. z.a.rest.now) pairs ∙ ap (λ i. i.rest.now) c.zip-path-items.ensures.first ∙ c.iter.ensures.rest ∙ c.deref.ensures.value in
+    let second = ap (λ z. z.b.rest.now) pairs ∙ c.zip-path-items.ensures.second.0 in
+    let ended : count ≡ min (length paths) (length files) =
+    zip_end paths files c.loop-path.yielded c.into_iter-path-iterator.result c.loop-path.path-iterator c.next.new.self c.next.result first second c.loop-path.yielded_by c.in-None.is c.next.ensures.steps in
+    sym (append-nil before) ∙ ap (λ left. before ++ map (marked_file edits) left) (sym (zip-none paths files count ended)) ∙ c.loop-path.invariant
+    ∙ (λ j. map (marked_file (marks j)) (zip (map string_bytes paths) (map file_view files)))

@@ -1,8 +1,8 @@
 use Rattle.std.proofs.Common.{◌≡◌, ◌∙◌, ◌++◌, ap, append-nil, length, map, min, sym}
 use Rattle.std.proofs.lemmas.Slice.Zip.{zip_end}
-use Rattle.brl_cut.specs.Edits.{Texts}
 use Rattle.brl_cut.specs.Files.{file_view}
-use Rattle.brl_cut.proofs.PlaceLemmas.{left-none}
+use Rattle.brl_lines.specs.Includes.{path_in}
+use Rattle.brl_cut.proofs.PlaceLemmas.{zip-none}
 use Rattle.brl_cut.proofs.placing.place_files.Goals as goal
 
 pub returns : goal.returns
@@ -16,4 +16,4 @@ returns c =
     let second = ap (λ z. z.b.rest.now) pairs ∙ c.zip-name-items.ensures.second.0 in
     let ended : count ≡ min (length names) (length files) =
     zip_end names files c.loop-name.yielded c.into_iter-name-iterator.result c.loop-name.name-iterator c.next.new.self c.next.result first second c.loop-name.yielded_by c.in-None.is c.next.ensures.steps in
-    sym (append-nil before) ∙ ap (λ (left : Texts). before ++ left) (sym (left-none c.args.dir.now names files count ended)) ∙ c.loop-name.invariant
+    sym (append-nil before) ∙ ap (λ left. before ++ map (λ entry. (path_in c.args.dir.now entry.0, entry.1.1)) left) (sym (zip-none names files count ended)) ∙ c.loop-name.invariant

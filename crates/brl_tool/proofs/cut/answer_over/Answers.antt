@@ -22,14 +22,14 @@ returns-in_err-marked c =
     let dir = c.args.asked.dir.now in
     let places : map location_view c.as_slice.result.now ≡ left_out_places (map acting_view c.args.judged.acting.now) = ap (map location_view) c.as_slice.ensures.value ∙ c.in_ok-places.ensures in
     failed _ _ c.from_residual-in_err-marked.ensures.1
-    (subst (λ (ps : List LocationView). IfFault (IsUnwritten (marked_files dir ps c.args.of.now) path dir) c.in_err-marked.field-0.0) places c.in_err-marked.ensures.fault)
+    (subst (λ (ps : List LocationView). IfFault (IsUnwritten (marked_files ps c.args.of.now) path dir) c.in_err-marked.field-0.0) places c.in_err-marked.ensures.fault)
 
 -- the files with marks
-marked : (c : In_ok-marked) → AreMarked c.args.asked.table.now c.args.asked.dir.now c.args.of.now (map acting_view c.args.judged.acting.now) (marked_files c.args.asked.dir.now (left_out_places (map acting_view c.args.judged.acting.now)) c.args.of.now)
+marked : (c : In_ok-marked) → AreMarked c.args.asked.table.now c.args.asked.dir.now c.args.of.now (map acting_view c.args.judged.acting.now) (marked_files (left_out_places (map acting_view c.args.judged.acting.now)) c.args.of.now)
 marked c =
     let dir = c.args.asked.dir.now in
     let places : map location_view c.as_slice.result.now ≡ left_out_places (map acting_view c.args.judged.acting.now) = ap (map location_view) c.as_slice.ensures.value ∙ c.in_ok-places.ensures in
-    (refl, subst (λ (ps : List LocationView). IsRead (marked_files dir ps c.args.of.now) (written_root dir c.args.asked.table.now)) places c.in_ok-marked.ensures.read)
+    (refl, subst (λ (ps : List LocationView). IsRead (marked_files ps c.args.of.now) (written_root dir c.args.asked.table.now)) places c.in_ok-marked.ensures.read)
 
 -- memory runs out at the answer
 pub returns-in_err-acting_answer : goal.returns-in_err-acting_answer
@@ -42,10 +42,10 @@ returns c =
     let dir = c.args.asked.dir.now in
     let lines = map acting_view c.args.judged.acting.now in
     let places : map location_view c.as_slice.result.now ≡ left_out_places lines = ap (map location_view) c.as_slice.ensures.value ∙ c.in_ok-places.ensures in
-    let texts : map file_view c.as_slice-2.result.now ≡ marked_files dir (left_out_places lines) c.args.of.now =
-    ap (map file_view) c.as_slice-2.ensures.value ∙ c.in_ok-marked.ensures.files ∙ ap (λ (ps : List LocationView). marked_files dir ps c.args.of.now) places in
+    let texts : map file_view c.as_slice-2.result.now ≡ marked_files (left_out_places lines) c.args.of.now =
+    ap (map file_view) c.as_slice-2.ensures.value ∙ c.in_ok-marked.ensures.files ∙ ap (λ (ps : List LocationView). marked_files ps c.args.of.now) places in
     inl (
-      marked_files dir (left_out_places lines) c.args.of.now,
+      marked_files (left_out_places lines) c.args.of.now,
       marked ((goal.at.returns c).In_ok-marked),
       subst (λ (fs : Texts). IsActingAnswer c.args.asked.rewrite c.args.asked.table.now dir (alphabet_view c.args.judged.alphabet.now) c.args.of.now.cut lines fs c.in_ok-acting_answer.field-0) texts c.in_ok-acting_answer.ensures,
     )
