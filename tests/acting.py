@@ -42,6 +42,7 @@ CLASSES = [*plain_acting.DEFINITIONS, *OWN_CLASSES]
 # Opcodes whose lines matter for each other; half of the lines of a table are of one such group.
 TOGETHER = [
     ["letsign", "noletsign", "word", "largesign"],
+    ["letsign", "sufword", "prfword", "begmidword", "noletsignafter"],
     ["begcapsword", "endcapsword", "capsletter", "capsign", "endword"],
     ["numsign", "digit", "litdigit", "numericmodechars", "begnum"],
     ["pass2", "pass3", "capsletter", "numsign", "always"],
@@ -64,7 +65,9 @@ LEFT_OUT = [
     plain_acting.CAPITALS, plain_acting.NUMBERS, plain_acting.NUMBER_LISTS, plain_acting.MODES, plain_acting.SEQUENCES, plain_acting.BLOCKS,
     plain_acting.CLASS_LINES, plain_acting.TEXT_TESTS, plain_acting.CELL_TESTS, *([it] for it in plain_acting.OTHERS),
 ]  # fmt: skip
-KEPT = [plain_acting.DEFINITIONS, [*plain_acting.PLACED, "always"], plain_acting.NUMBER_LISTS, ["begcapsword"], ["begnum", "midnum", "endnum"]]
+KEPT = [
+    plain_acting.DEFINITIONS, [*plain_acting.PLACED, "always"], plain_acting.NUMBER_LISTS, ["begcapsword"], ["begnum", "midnum", "endnum"], ["letsign"],
+]  # fmt: skip
 
 
 # ---- Tables

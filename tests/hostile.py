@@ -88,19 +88,20 @@ no line defines a character
 0 of 0 lines are read
 no verdict: a survey doesn't decide whether two texts have the same cells
 """
-# A table of three files, and the files of its cut with what is printed.
+# A table of three files, and the files of its cut, of which one is made, with what is printed.
 WHOLE = {
     "t.ctb": "include p/u.cti\nbase uppercase A a\npass2 x\ninclude v.cti\ninclude v.cti\n",
     "p/u.cti": "noback letter a 1\nalways ab 9\n",
-    "v.cti": "letter b 12\nalways abc 3\ninclude none\n",
+    "v.cti": "letter b 12\nletsign 56\nalways abc 3\ninclude none\n",
 }
 CUT = {
     "t.ctb": "include p/u.cti\nuplow Aa 1 # base uppercase A a\n# B1 OutsideProfile pass2: pass2 x\ninclude v.cti\n# repeated v.cti: include v.cti\n",
     "p/u.cti": "letter a 1 # noback letter a 1\n# B4 BadDots 9: always ab 9\n",
-    "v.cti": "letter b 12\n# B5 UndefinedInRule abc: always abc 3\n# L1 NotFound none: include none\n",
+    "v.cti": "letter b 12\ninclude letsign-made.cti # letsign 56\n# B5 UndefinedInRule abc: always abc 3\n# L1 NotFound none: include none\n",
+    "letsign-made.cti": "word a 56-1\nword b 56-12\n",
 }
 CUT_ANSWER = """\
-3 of 8 lines are kept, 2 of them rewritten
+5 of 10 lines are kept, 2 of them rewritten
 opcode always: 2
 opcode include: 2
 opcode pass2: 1 (not in the profile)
@@ -382,6 +383,8 @@ RUNS = [
     Run("a table whose files are in folders is cut", ["cut", "--path", "c", "--path", "e", "t.ctb", "d", "--rewrite"],
         {"t.ctb": WHOLE["t.ctb"], "c/p/u.cti": WHOLE["p/u.cti"], "e/v.cti": WHOLE["v.cti"]},
         CUT_ANSWER.replace("file p/", "file c/p/").replace("file v", "file e/v"), tree=CUT),
+    Run("a table whose root is in a folder is cut", ["cut", "--path", "e", "t.ctb", "d", "--rewrite"], {f"e/{name}": text for name, text in WHOLE.items()},
+        CUT_ANSWER.replace("file ", "file e/"), tree=CUT),
     Run("a table whose file is in a folder is surveyed", ["survey", "--path", "e", "t.ctb"], {"t.ctb": "include u\n", "e/u": "letter a 1\n"},
         "1 of 1 lines are read\nno verdict: a survey doesn't decide whether two texts have the same cells\n"),
     Run("a cut finds a file that is there", ["cut", "t.ctb", "d"], {**WHOLE, "d/v.cti": "kept\n"}, status=2,

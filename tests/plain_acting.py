@@ -118,13 +118,13 @@ def rows_of(files: plain_cut.Files) -> list[Row]:
     def visit(file: plain_cut.File) -> None:
         ends = [(it.text + it.end).removesuffix("\n").removesuffix("\r").endswith("\\") for it in file.lines]
         for number, line in enumerate(file.lines, 1):
-            if line.is_followed:
+            if line.is_followed and not line.is_of_made:
                 visit(next(others))
             is_joined = ends[number - 1] or (number > 1 and ends[number - 2])
             if line.words[:1] == ["include"] and len(line.words) > 1:
                 if line.fault.startswith("L1 "):
                     missing.append(Row(file.path, number, ["include"], False, is_joined))
-            elif line.does_something():
+            elif line.does_something() or line.is_of_made:
                 rows.append(Row(file.path, number, re.findall("[^ \t]+", line.text), not line.fault, is_joined))
 
     visit(next(others))
@@ -148,7 +148,18 @@ class Known:
         self.has_capital = bool(self.alphabet & self.capitals)
         self.has_digit = bool(self.alphabet & self.digits)
         self.cells = {cell for row in rows if row.is_kept and "nofor" not in row.prefixes for cell in self.cells_of(row)}
+        self.beside = {it for row in rows if row.opcode in ("noletsignbefore", "noletsignafter") for it in row.chars(0) or ""}
+        self.letsign = next((place for place, it in enumerate(rows) if it.is_kept and it.opcode == "letsign"), None)
         self.rules = [it for it in rows if it.is_kept and "nofor" not in it.prefixes and it.opcode in RULES and it.chars(0) is not None]
+
+    def signed(self) -> set[str]:
+        """The letters before which `letsign` may stand."""
+        return self.letters - without_sign(self)
+
+    def odd(self) -> set[str]:
+        """The characters of the alphabet beside which, or before which, a rewritten `letsign` isn't exact."""
+        apart = self.members.get("space", set()) | self.members.get("punctuation", set())
+        return {it for it in self.alphabet if it in self.capitals | self.beside or (it in self.letters) == (it in apart)}
 
     def add_class(self, name: str, chars: str) -> None:
         names = {name} | ({"letter"} if name in ("uppercase", "lowercase") else set() if name in DEFINITIONS else {""})
@@ -202,6 +213,7 @@ class Known:
         else:
             place = 0
             is_given = (row.opcode in CAPITALS and self.has_capital) or (row.opcode in NUMBERS and self.has_digit)
+            is_given |= row.opcode == "letsign" and bool(self.signed() & self.alphabet)
         if is_given:
             yield from self.cells_at(row, place)
 
@@ -308,7 +320,7 @@ def needs_of_left_out(known: Known, row: Row) -> Needs:
     if opcode in SEQUENCES:
         return [frozenset(known.alphabet - known.letters - known.members.get("space", set()))]
     if opcode == "letsign":
-        return [frozenset(known.letters - apart(known))]
+        return [frozenset(known.signed())] if known.letsign is None else NEVER
     if opcode in CLASS_LINES and len(row.operands) > 1:
         return one_of(row.chars(1), known.up) if row.operands[0] in DEFINITIONS else NEVER
     if opcode == "grouping":
@@ -326,7 +338,7 @@ def needs_of_left_out(known: Known, row: Row) -> Needs:
     return ALWAYS
 
 
-def apart(known: Known) -> set[str]:
+def without_sign(known: Known) -> set[str]:
     """The letters before which `letsign` isn't used."""
     found: set[str] = set()
     for row in known.rows:
@@ -352,6 +364,8 @@ def needs_of_kept(known: Known, row: Row) -> Needs:
         with_case = known.capitals | {lower for upper, lower in known.bases if upper in known.capitals}
         has_all = known.has("endcapsword") and (known.has("capsletter") or known.has("capsign"))
         return [frozenset(known.capitals), *([frozenset(known.letters - with_case)] if has_all else [])]
+    if row.opcode == "letsign":
+        return [frozenset(known.signed() | known.capitals), frozenset(known.odd())]
     return needs_of_rule(known, row) if row.opcode in RULES else NEVER
 
 
@@ -366,7 +380,9 @@ def needs_of_rule(known: Known, row: Row) -> Needs:
     earlier = [it for it in known.rules if [*map(id, known.rows)].index(id(it)) < place]
     if len(chars) == 1:
         is_beaten = row.opcode in (*PLACED, "contraction") and any(it.opcode == "always" and it.chars(0) == chars for it in earlier)
-        return [frozenset(chars)] if is_beaten else [frozenset(known.above({chars}))]
+        # brl uses it for the letter alone, without the sign
+        loses_sign = row.opcode in ("sufword", "prfword") and place < (known.letsign or 0) and chars in known.signed()
+        return [frozenset(chars)] if is_beaten or loses_sign else [frozenset(known.above({chars}))]
     if row.opcode == "contraction":
         return [frozenset().union(*(known.above({it}) for it in chars)), *known.each(row, 0, known.up)]
     if known.capitals & {*chars}:
@@ -374,6 +390,9 @@ def needs_of_rule(known: Known, row: Row) -> Needs:
         alike = [it for it in known.rules if it.opcode == row.opcode and it.chars(0) == lowered]
         is_same = any(any(it is other for other in earlier) or it.operand(1) == row.operand(1) for it in alike)
         return NEVER if is_same else known.each(row, 0, known.either)
+    gets_sign = known.letsign is not None and len(chars) > 1 and chars[0] in known.signed() and chars[1] not in known.letters
+    if gets_sign and row.opcode in ("always", "prfword", "begmidword", "partword"):
+        return known.each(row, 0, known.up)
     if row.opcode in ("prfword", "endword", "midword", "begmidword", "midendword") and known.has("begcapsword"):
         return [frozenset(known.capitals), *known.each(row, 0, known.up)]
     return NEVER
@@ -391,12 +410,15 @@ def judged(root: str, is_rewriting: bool, alphabet: set[str] | None = None) -> t
     """The lines of a table, each with whether it can act, and the characters that its cut defines; over these, where none are given."""
     files = plain_cut.Files(root, [])
     if is_rewriting:
-        plain_cut.rewrite(files.lines)
+        plain_cut.rewrite(files)
     plain_cut.cut_lines(files.lines)
     defined = {*plain_cut.first_pass([it for it in files.lines if not it.fault]).chars}
     rows = rows_of(files)
     known = Known(rows, defined if alphabet is None else alphabet)
-    return [(it, can_act(known, it)) for it in rows], defined
+    made = next((it for it in files.files if it.name == plain_cut.MADE and not it.depth), None)
+    # a line that was made and is left out can act
+    more = [Row(made.path, number, it.words, False, False) for number, it in enumerate(made.lines, 1) if it.fault] if made else []
+    return [(it, can_act(known, it)) for it in rows] + [(it, True) for it in more], defined
 
 
 def answer(root: str, folder: str, rows: list[tuple[Row, bool]]) -> list[str]:
@@ -433,6 +455,24 @@ CASES = [
     Case(f"{AB}; nofor letsign 1", "ab"),
     Case(f"{AB}; letsign 56", "ab", (4,)),
     Case(f"{AB}; letsign 56; noletsign ab; word a 1", "ab"),
+    # a letter sign that is rewritten
+    Case(f"{AB}; letsign 56", "ab", (), True),
+    Case(f"{AB}; punctuation . 256; letsign 56", "ab.", (), True),
+    Case(f"{AB}; punctuation . 256; letsign 56; noletsignafter .", "ab.", (5,), True),
+    Case(f"{AB}; digit 1 1; letsign 56", "ab1", (5,), True),
+    Case(f"{AB}; digit 1 1; letsign 56; noletsign ab", "ab1", (), True),
+    Case(f"{AB}; punctuation a 1; letsign 56", "a", (5,), True),
+    Case(f"{AB}; punctuation a 1; letsign 56", "b", (), True),
+    Case(f"{AB}; base uppercase A a; letsign 56", "abA", (5,), True),
+    Case(f"{AB}; letsign 46; letsign 56", "ab", (), True),
+    Case(f"{AB}; sufword a 2; letsign 56; sufword b 2", "ab", (4,), True),
+    Case(f"{AB}; sufword a 2; letsign 56; sufword b 2", "b", (), True),
+    Case(f"{AB}; letsign 56; always a\\s 1; prfword bb 1", "ab", (5,), True),
+    Case(f"{AB}; letsign 56; word a\\s 1; endword a\\s 1", "ab", (), True),
+    Case(f"{AB}; letsign 56; pass2 @56 @1", "ab", (5,), True),
+    Case(f"{AB}; letsign 56; noletsign a; pass2 @56 @1", "a", (), True),
+    # of a letter with sixteen cells the made line has too many
+    Case(f"{AB}; always a {'-'.join(['1'] * 16)}; letsign 56", "b", (1,), True),
     Case(f"{AB}; before space after space nocross word a 1", "a", (4,)),
     Case(f"{AB}; after digit word a 1; digit 1 1", "a"),
     Case(f"{AB}; after digit word a 1", "a", (4,)),

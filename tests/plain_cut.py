@@ -31,6 +31,10 @@ PROFILE = {*DEFINING, *PLACES, *SIGNS, *LISTS, "noback", "nofor", "display", "in
 
 MOST_FILE_BYTES, MOST_LINE_BYTES, MOST_DEPTH, MOST_PATHS = 16_777_216, 2048, 16, 1025
 MOST_BEFORE_BYTES = 1024
+
+# The file that is made for a letter sign; and the escapes of one mark.
+MADE = "letsign-made.cti"
+ESCAPES = dict(zip("\\\f\n\r \t\v\x1b", "\\fnrstve"))
 MOST_CHARACTERS, MOST_RULES, MOST_RULE_CHARACTERS, MOST_CELLS = 1024, 4096, 32, 16
 
 NO_VERDICT = "no verdict: a cut doesn't decide whether two texts have the same cells\n"
@@ -207,6 +211,8 @@ class Line:
     # what a line that is rewritten becomes, where that is kept
     rewritten: str = ""
     is_followed: bool = False
+    # whether it includes a file that is made
+    is_of_made: bool = False
 
     def does_something(self) -> bool:
         return bool(self.words) and not self.words[0].startswith("#") and not self.is_followed
@@ -227,6 +233,8 @@ class File:
     name: str
     mark: bytes
     lines: list[Line]
+    # how many files lead to it, with itself
+    depth: int
 
     def written(self) -> bytes:
         return self.mark + "".join(it.written() for it in self.lines).encode()
@@ -284,7 +292,7 @@ def lines_of(text: str) -> Iterator[Line]:
         yield Line(last, "", re.findall("[^ \t]+", last))
 
 
-def read_file(path: str, name: str, place: str) -> File:
+def read_file(path: str, name: str, place: str, depth: int) -> File:
     """A file, checked whole; FileNotFoundError where there is none."""
     try:
         with open(path, "rb") as file:
@@ -304,7 +312,7 @@ def read_file(path: str, name: str, place: str) -> File:
     for number, line in enumerate(lines, 1):
         if len(line.text.encode()) > MOST_LINE_BYTES:
             raise Stop(f"L6 LineTooLong {path} at {path}:{number}")
-    return File(path, name, mark, lines)
+    return File(path, name, mark, lines, depth)
 
 
 def is_there(path: str) -> bool:
@@ -350,7 +358,7 @@ class Files:
 
     def walk(self, path: str, name: str, place: str, depth: int) -> None:
         """Reads a file, and those that it includes; the include lines that aren't followed get their comments."""
-        file = read_file(path, name, place)
+        file = read_file(path, name, place, depth)
         self.files.append(file)
         for number, line in enumerate(file.lines, 1):
             if line.words[:1] == ["include"] and len(line.words) > 1:
@@ -405,13 +413,13 @@ def capital(words: list[str], good: Good) -> list[str]:
     return []
 
 
-def given_cells(opcode: str, lines: list[Line]) -> list[list[str]]:
-    """The cells that lines of an opcode give an indicator."""
+def givers(opcode: str, lines: list[Line]) -> list[tuple[Line, list[str]]]:
+    """The lines of an opcode that give an indicator cells, with these."""
     found = []
     for line in lines:
         if line.words[0] == opcode and len(line.words) > 1:
             with contextlib.suppress(Fault):
-                found.append(cells(line.words[1], opcode))
+                found.append((line, cells(line.words[1], opcode)))
     return found
 
 
@@ -436,11 +444,86 @@ def good_of(lines: list[Line]) -> Good:
     return good
 
 
-def rewrite(lines: list[Line]) -> None:
+class Letsign:
+    """The last line that gives a letter sign, and what is made of it: the lines of a file, and rules with the sign."""
+
+    def __init__(self, lines: list[Line], good: Good, signs: list[str]) -> None:
+        # that program stands on this one
+        from plain_acting import Known, Row, without_sign  # noqa: PLC0415
+
+        self.lines, self.good = lines, good
+        self.line, self.sign = givers("letsign", lines)[-1]
+        known = Known([Row("", 0, it.words, True, False) for it in lines], set())
+        self.letters = known.letters
+        self.signed = known.letters - known.capitals - without_sign(known)
+        self.made = [f"word {spell(char)} {'-'.join(self.alone(char, signs))}" for char in good.chars if char in self.signed]
+
+    def own(self, chars: str) -> list[str]:
+        return [cell for it in chars if it in self.good.chars for cell in self.good.chars[it][1]]
+
+    def rule(self, words: list[str]) -> tuple[str, list[str]] | None:
+        """The characters and the cells of a rule."""
+        with contextlib.suppress(Fault, IndexError):
+            chars = spelled(words[1])
+            return chars, self.own(chars) if words[2] == "=" else cells(words[2], words[2])
+        return None
+
+    def alone(self, letter: str, signs: list[str]) -> list[str]:
+        """The cells of a letter alone."""
+        for line in self.lines:
+            if line.words[0] in ("always", "sufword", "prfword"):
+                found = self.rule(line.words)
+                if found and found[0] == letter:
+                    return self.sign + found[1]
+            elif line.words[0] == "contraction":
+                with contextlib.suppress(Fault, IndexError):
+                    if spelled(line.words[1]) == letter:
+                        return signs + self.own(letter)
+        return self.sign + self.own(letter)
+
+    def rules(self) -> list[tuple[Line, list[str]]]:
+        """The lines with rules that get the sign, and these."""
+        found = []
+        for line in self.lines:
+            rule = self.rule(line.words) if line.words[0] in ("word", "sufword", "begword") else None
+            if rule and len(rule[0]) > 1 and rule[0][0] in self.signed and rule[0][1] not in self.letters:
+                found.append((line, [*line.words[:2], "-".join(self.sign + rule[1])]))
+        return found
+
+
+def spell(char: str) -> str:
+    """A character as an operand of a file that is made spells it."""
+    if char in ESCAPES:
+        return "\\" + ESCAPES[char]
+    return f"\\x{ord(char):04x}" if ord(char) < 32 or ord(char) == 127 else char
+
+
+def may_make(files: Files, line: Line) -> bool:
+    """Whether a line may include a file that is made."""
+    path = files.folder + MADE
+    (depth,) = (it.depth for it in files.files if any(line is other for other in it.lines))
+    has_room = path in files.asked or len(files.asked) < MOST_PATHS * (1 + len(files.folders))
+    is_taken = any(MADE == it.name or path == it.path for it in files.files)
+    return not is_taken and depth < MOST_DEPTH and has_room
+
+
+def make_file(files: Files, letsign: Letsign) -> None:
+    """Has a line include a file that is made, with a line for each letter before which the sign may stand."""
+    line = letsign.line
+    line.rewritten = limited(f"include {MADE} # {line.text}")
+    line.is_followed = line.is_of_made = True
+    made = list(lines_of("".join(f"{it}\n" for it in letsign.made)))
+    files.files.append(File(files.folder + MADE, MADE, b"", made, 0))
+    (place,) = (place for place, it in enumerate(files.lines) if it is line)
+    files.lines[place : place + 1] = made
+
+
+def rewrite(files: Files) -> None:
     """
     Puts what a line defines after `noback` before the line; then the `uplow` line before one of a capital; then the `word`
-    line before a contraction.
+    line before a contraction, and the sign before the rules that get it.
     """
+    lines = [*files.lines]
     for line in lines:
         if line.words[0] == "noback":
             put_definition(line, line.words[1:4])
@@ -448,10 +531,15 @@ def rewrite(lines: list[Line]) -> None:
     for line in lines:
         put_definition(line, capital(line.words, good))
     good = good_of(lines)
-    signs = sum(given_cells("nocontractsign", lines)[:1] + given_cells("letsign", lines)[-1:], [])
-    for line in lines:
-        if words := contraction(line.words, good, signs):
-            put(line, words)
+    signs = [cell for _, found in givers("nocontractsign", lines)[:1] + givers("letsign", lines)[-1:] for cell in found]
+    edits = [(line, words) for line in lines if (words := contraction(line.words, good, signs))]
+    if givers("letsign", lines):
+        letsign = Letsign(lines, good, signs)
+        if may_make(files, letsign.line):
+            edits += letsign.rules()
+            make_file(files, letsign)
+    for line, words in edits:
+        put(line, words)
 
 
 def defines(words: list[str]) -> bool:
@@ -525,7 +613,7 @@ def cut(root: str, is_rewriting: bool, folders: Iterable[str] = ()) -> tuple[dic
     """The files of a table's cut, by their names in the order in which they are written, and what is printed."""
     files = Files(root, [*folders])
     if is_rewriting:
-        rewrite(files.lines)
+        rewrite(files)
     cut_lines(files.lines)
     return {it.name: it.written() for it in files.files}, report(files.files, is_rewriting)
 
@@ -594,6 +682,11 @@ class Case:
 
 def one(name: str, table: str | bytes, cut: str | bytes, told: str, is_rewriting: bool = False) -> Case:
     return Case(name, {"t.ctb": table}, {"t.ctb": cut}, told, is_rewriting)
+
+
+def letsign(name: str, table: str, cut: str, made: str, told: str) -> Case:
+    """A case with a file that is made."""
+    return Case(name, {"t.ctb": table}, {"t.ctb": cut, MADE: made}, told, True)
 
 
 def faulty(name: str, files: dict[str, str | bytes], fault: str) -> Case:
@@ -735,13 +828,49 @@ CASES = [
     one("a capital of a letter that another line makes a capital", "lowercase \\x00df 2346\nuplow Ss 234,2\nbase uppercase \\x1e9e S\n",
         "lowercase \\x00df 2346\nuplow Ss 234,2\nuplow \\x1e9eS 234 # base uppercase \\x1e9e S\n",
         "3 of 3 lines are kept, 1 of them rewritten\n", True),
-    one("contractions, with the cells of two indicators",
+    letsign("contractions, with the cells of two indicators",
         "contraction ab x\nletter a 1\nnoback letter b 21\nletsign 5\nletsign 56-6\nletsign 9\nnocontractsign 4\nnocontractsign 3\n contraction\tb\n",
         "word ab 4-56-6-1-12 # contraction ab x\nletter a 1\nletter b 21 # noback letter b 21\n# B1 OutsideProfile letsign: letsign 5\n"
-        "# B1 OutsideProfile letsign: letsign 56-6\n# B1 OutsideProfile letsign: letsign 9\nnocontractsign 4\n"
+        "include letsign-made.cti # letsign 56-6\n# B1 OutsideProfile letsign: letsign 9\nnocontractsign 4\n"
         "# B9 IndicatorTwice nocontractsign: nocontractsign 3\nword b 4-56-6-12 #  contraction\tb\n",
-        "5 of 9 lines are kept, 3 of them rewritten\nopcode letsign: 3 (not in the profile)\nopcode nocontractsign: 1\n"
-        "file t.ctb: 5 of 9 lines are read\n", True),
+        "word a 56-6-1\nword b 4-56-6-12\n",
+        "7 of 10 lines are kept, 3 of them rewritten\nopcode letsign: 2 (not in the profile)\nopcode nocontractsign: 1\n"
+        "file t.ctb: 5 of 8 lines are read\n"),
+    letsign("a letter sign before letters that no line takes it from",
+        "letter a 1\nlowercase b 12\nbase uppercase B b\nletter c 14\nletter d 145\nletter \\x000e 2\nsign + 3\nnoletsign cx\nlargesign d 5\nnofor word a 2\nletsign 56\n",
+        "letter a 1\nlowercase b 12\nuplow Bb 12 # base uppercase B b\nletter c 14\nletter d 145\nletter \\x000e 2\nsign + 3\n"
+        "# B1 OutsideProfile noletsign: noletsign cx\n# B1 OutsideProfile largesign: largesign d 5\nnofor word a 2\n"
+        "include letsign-made.cti # letsign 56\n",
+        "word a 56-1\nword b 56-12\nword \\x000e 56-2\n",
+        "11 of 13 lines are kept, 1 of them rewritten\nopcode largesign: 1 (not in the profile)\nopcode noletsign: 1 (not in the profile)\n"
+        "file t.ctb: 8 of 10 lines are read\n"),
+    letsign("a letter sign before the cells of the first rule",
+        "letter a 1\nletter b 12\nletter c 14\nspace \\s 0\nletsign 6\nword ab 3\nprfword a 4-5\nalways a 36\nsufword b =\ncontraction b\ncontraction c\nalways c 2\n",
+        "letter a 1\nletter b 12\nletter c 14\nspace \\s 0\ninclude letsign-made.cti # letsign 6\nword ab 3\nprfword a 4-5\nalways a 36\nsufword b =\n"
+        "word b 6-12 # contraction b\nword c 6-14 # contraction c\nalways c 2\n",
+        "word a 6-4-5\nword b 6-12\nword c 6-14\n",
+        "14 of 14 lines are kept, 2 of them rewritten\n"),
+    letsign("rules that begin with a letter alone",
+        "letter a 1\nletter b 12\nsign + 2\nletsign 6\nword a+ 3\n sufword\ta+b =\nbegword b+ 5 x\nendword a+ 4\nword ab 7\nword +a 8\nword a+\nnoletsign b\nbegword a+x 5\n",
+        "letter a 1\nletter b 12\nsign + 2\ninclude letsign-made.cti # letsign 6\nword a+ 6-3 # word a+ 3\nsufword a+b 6-1-2-12 #  sufword\ta+b =\n"
+        "begword b+ 5 x\nendword a+ 4\nword ab 7\nword +a 8\n# B2 MissingOperand word: word a+\n# B1 OutsideProfile noletsign: noletsign b\n"
+        "# B5 UndefinedInRule a+x: begword a+x 5\n",
+        "word a 6-1\n",
+        "10 of 13 lines are kept, 2 of them rewritten\nopcode begword: 1\nopcode noletsign: 1 (not in the profile)\nopcode word: 1\n"
+        "file t.ctb: 9 of 12 lines are read\n"),
+    letsign("a letter sign with too many cells for a rule",
+        f"letter a 1\nletter b 12\nletsign 6\nalways a {'-'.join(['1'] * 16)}\n",
+        f"letter a 1\nletter b 12\ninclude letsign-made.cti # letsign 6\nalways a {'-'.join(['1'] * 16)}\n",
+        f"# B4 BadDots 6{'-1' * 16}: word a 6{'-1' * 16}\nword b 6-12\n",
+        "4 of 5 lines are kept, 0 of them rewritten\nopcode word: 1\nfile letsign-made.cti: 1 of 2 lines are read\n"),
+    Case("no letter sign where a file has the name of the one that is made",
+        {"t.ctb": "letter a 1\nletsign 6\ninclude letsign-made.cti\n", "letsign-made.cti": "letter b 12\n"},
+        {"t.ctb": "letter a 1\n# B1 OutsideProfile letsign: letsign 6\ninclude letsign-made.cti\n", "letsign-made.cti": "letter b 12\n"},
+        "2 of 3 lines are kept, 0 of them rewritten\nopcode letsign: 1 (not in the profile)\nfile t.ctb: 1 of 2 lines are read\n", True),
+    Case("no letter sign at the last depth",
+        chain(16) | {"c16": "letter a 1\nletsign 6\n"},
+        chain(16) | {"c16": "letter a 1\n# B1 OutsideProfile letsign: letsign 6\n"},
+        "1 of 2 lines are kept, 0 of them rewritten\nopcode letsign: 1 (not in the profile)\nfile c16: 1 of 2 lines are read\n", True),
     one("contractions without indicators, of characters of all kinds",
         "lowercase a 1\nbase uppercase A a\ndigit 1 2\nlitdigit 1 3\npunctuation \\x0027 3-4\ncontraction a1'\ncontraction \\x0061\n",
         "lowercase a 1\nuplow Aa 1 # base uppercase A a\ndigit 1 2\nlitdigit 1 3\npunctuation \\x0027 3-4\n"

@@ -1,5 +1,5 @@
 //! Cells, lines, tables and translation.
-use brl_acting::{ActingLine, acting_of_table};
+use brl_acting::{ActingLine, Letters, acting_of_table};
 use brl_cells::{Cell, Cells, DotsFault, read_dots, to_ascii, to_unicode, write_dots};
 use brl_cut::{
     Cut, CutFault, CutTable, WithoutDictionaries, cut_table, load_whole, load_without_dictionaries,
@@ -258,8 +258,12 @@ fn can_act(alloc: Global, of: &CutTable) -> Result<bool, Fail> {
     }
     let marked = mark_lines(alloc, of, "t.ctb", "o", places.as_slice())?;
     let root = written_root(alloc, "o", "t.ctb")?;
+    let letters = Letters::of_lines(alloc, whole.lines(alloc)?.as_slice())?;
     Ok(
-        of.table.char_count() == 1
+        letters.has('a')
+            && letters.takes_sign('a')
+            && !letters.has('b')
+            && of.table.char_count() == 1
             && marked.len() == 1
             && marked[0].path.as_str() == root.as_str()
             && marked[0].bytes.as_slice() == MARKED,

@@ -244,6 +244,39 @@ letter a 1; letter b 12; nocontractsign 4; contraction b; - pass2 @4 @3|a|
 letter a 1; letter b 12; nocontractsign 4; contraction b; - pass2 @4 @3|b|5
 ";
 
+/// A kept line with `letsign`, which a cut rewrites, and lines beside it.
+const LETSIGN: &str = "\
+letter a 1; space \\s 0; punctuation . 2; digit 1 3; letsign 56|a|
+letter a 1; space \\s 0; punctuation . 2; digit 1 3; letsign 56|a.|
+letter a 1; space \\s 0; punctuation . 2; digit 1 3; letsign 56|a1|5
+letter a 1; space \\s 0; punctuation . 2; digit 1 3; letsign 56|1.|
+letter a 1; letter b 2; space \\s 0; digit 1 3; letsign 56; - noletsign a|a1|
+letter a 1; letter b 2; space \\s 0; digit 1 3; letsign 56; - noletsign a|b1|5
+letter a 1; space \\s 0; punctuation . 2; letsign 56; - noletsignbefore .|a.|4
+letter a 1; space \\s 0; punctuation . 2; letsign 56; - noletsignafter .|a.|4
+letter a 1; space \\s 0; punctuation a 1; letsign 56|a|4
+uplow Aa 1; space \\s 0; letsign 56|a|
+uplow Aa 1; space \\s 0; letsign 56|A|3
+letter a 1; letsign 56|a|2
+letter a 1; space \\s 0; - letsign 4; letsign 56|a|
+letter a 1; space \\s 0; letsign 56; - pass2 @56 @3|a|4
+letter a 1; space \\s 0; letsign 56; - noletsign a; - pass2 @56 @3|a|
+letter a 1; letter b 2; space \\s 0; sufword a 3; prfword b 3; letsign 56; sufword b 4|a|4
+letter a 1; letter b 2; space \\s 0; sufword a 3; prfword b 3; letsign 56; sufword b 4|b|5
+letter a 1; letter b 2; space \\s 0; - noletsign ab; sufword a 3; prfword b 3; letsign 56|ab|
+letter a 1; space \\s 0; sufword a 3; word a 4; letsign 56|a|
+letter a 1; space \\s 0; punctuation . 2; always a. 3; prfword a. 3; begmidword a.a 3; partword a. 3; letsign 56|a.|4,5,6,7
+letter a 1; space \\s 0; punctuation . 2; word a. 3; sufword a. 3; begword a. 3; endword a. 3; midword a. 3; letsign 56|a.|
+letter a 1; space \\s 0; punctuation . 2; always a. 3; always aa 3; always .a 3; - noletsign a; letsign 56|a.|
+letter a 1; space \\s 0; punctuation . 2; always a. 3; letsign 56|a|
+letter a 1; space \\s 0; punctuation . 2; always a. 3; - letsign 56|a.|5
+";
+
+#[test]
+fn kept_letsign_acts(rt: HostRuntime) -> Result<(), Fail> {
+    for_rows_of_3(rt.alloc(), LETSIGN, acting_in)
+}
+
 #[test]
 fn definitions_act(rt: HostRuntime) -> Result<(), Fail> {
     for_rows_of_3(rt.alloc(), DEFINITIONS, acting_in)
