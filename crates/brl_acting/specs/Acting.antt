@@ -108,11 +108,12 @@ is_same_small place words small rule =
 abbrev pub gets_sign : Known → ℕ → Bool
 gets_sign known c = is_some known.read.letsign && known.classes.letters c && not (known.classes.noletsigns c)
 
--- a rule of one character with `sufword` or `prfword` before the line with `letsign`: brl uses it
--- for the letter alone, and doesn't write the sign
+-- a place is before that of the line with `letsign`
 abbrev pub is_before_sign : Known → ℕ → Bool
 is_before_sign known place = option_map_or (nat_lt place) known.read.letsign false
 
+-- a rule of one character with `sufword` or `prfword` before that line: brl uses it for the letter
+-- alone, and doesn't write the sign
 abbrev pub loses_sign : Known → ℕ → List ℕ → ℕ → Bool
 loses_sign known place word c = is_one_of (codes "sufword" ∷ codes "prfword" ∷ []) word && is_before_sign known place && gets_sign known c
 
@@ -140,13 +141,14 @@ is_number_rule word = is_one_of (codes "begnum" ∷ codes "midnum" ∷ codes "en
 abbrev pub ends_run : Known → List ℕ → Bool
 ends_run known word = is_run_rule word && known.read.keeps_word && known.facts.has_capital
 
--- A rule gets `letsign` by its characters: the sign may stand before the first one, and the second
--- one is no letter. A cut rewrites those with `word`, `sufword` and `begword`, and others can't
--- begin there.
+-- characters begin with a letter before which the sign may stand, and one that is no letter
 abbrev pub begins_alone : Known → List ℕ → Bool
 begins_alone known (c ∷ d ∷ others) = gets_sign known c && not (known.classes.letters d)
 begins_alone known others = false
 
+-- A rule gets the sign in liblouis, and not in the cut. With `word`, `sufword` and `begword` the
+-- cut rewrites it; with `endword`, `midword` and `midendword` a letter is before it, so there is no
+-- sign.
 abbrev pub lacks_sign : Known → List ℕ → List ℕ → Bool
 lacks_sign known word chars = is_one_of (codes "always" ∷ codes "prfword" ∷ codes "begmidword" ∷ codes "partword" ∷ []) word && begins_alone known chars
 

@@ -125,16 +125,18 @@ has_mark pairs chars = list_any (λ c. not (is_in (members (codes "letter") pair
 abbrev pub has_letter : List (List ℕ × ℕ) → List ℕ → List ℕ → Bool
 has_letter pairs noletsigns chars = list_any (λ c. is_in (members (codes "letter") pairs) c && not (is_in noletsigns c)) chars
 
--- One beside which, or before which, a rewritten `letsign` isn't exact: a capital, one beside which
--- the sign doesn't stand, and a character that is neither a letter nor a space or punctuation, or
--- is both.
+-- a space or a punctuation mark
 abbrev pub is_apart : List (List ℕ × ℕ) → ℕ → Bool
 is_apart pairs c = is_in (members (codes "space") pairs) c || is_in (members (codes "punctuation") pairs) c
 
+-- A character beside which, or before which, a rewritten `letsign` isn't exact: a capital; one that
+-- `noletsignbefore` or `noletsignafter` lists; a letter that is a space or a punctuation mark too;
+-- and one that is none of the three, as a digit or a sign.
 abbrev pub is_odd : List (List ℕ × ℕ) → List ℕ → ℕ → Bool
 is_odd pairs besides c =
     is_in (members (codes "uppercase") pairs) c || is_in besides c || (if is_in (members (codes "letter") pairs) c then is_apart pairs c else not (is_apart pairs c))
 
+-- the alphabet has one
 abbrev pub has_odd : List (List ℕ × ℕ) → List ℕ → List ℕ → Bool
 has_odd pairs besides chars = list_any (is_odd pairs besides) chars
 

@@ -7,11 +7,12 @@ use Rattle.brl_acting.specs.Sets.{is_in, set_view}
 use Rattle.brl_acting.specs.Words.{LineParts, TableLineView, parts_of}
 use Rattle.brl_acting.specs.declared.letters.Letters.{Letters as LettersOfCode}
 
+-- whether a character is a letter, and whether `letsign` may stand before it
 pub record Letters : Type 0 where
   pub is_letter : ℕ → Bool
   pub takes_sign : ℕ → Bool
 
--- a line of a table that is kept
+-- a line, as a cut has it that leaves none out
 abbrev pub table_line : LineView → TableLineView
 table_line line = record { line = line; kept = true; continued = false }
 

@@ -116,7 +116,7 @@ keeps word lines = list_any (λ parts. parts.kept && has_opcode word parts) line
 abbrev pub keeps_runs : List LineParts → Bool
 keeps_runs lines = keeps (codes "endcapsword") lines && (keeps (codes "capsletter") lines || keeps (codes "capsign") lines)
 
--- A kept line is one with `letsign`: the cut has made a file of it.
+-- a line with `letsign` that the cut keeps, so that it has made a file of it
 abbrev pub is_kept_letsign : LineParts → Bool
 is_kept_letsign parts = parts.kept && has_opcode (codes "letsign") parts
 

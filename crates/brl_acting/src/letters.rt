@@ -6,7 +6,7 @@ ghost use Rattle.brl_lines.specs.Views.{line_view};
 
 use crate::char_set::CharSet;
 use crate::class_pairs::{classes_of, noletsigns_of};
-use crate::classes::{member_list, members};
+use crate::classes::members;
 use crate::parts::{Parts, parts_of_lines};
 use crate::table_line::TableLine;
 use brl_lines::Line;
@@ -46,7 +46,7 @@ impl Letters {
     }
 }
 
-/// Lines of a table, each of which is kept.
+/// These lines, as a cut has them that leaves none out.
 fn table_lines<'l, 'a>(
     alloc: Global,
     lines: &'l [Line<'a>],

@@ -208,9 +208,9 @@ pub fn cut_table<S: Source>(
     })
 }
 
-/// The files of a cut for the folder `dir`, where `# can act: ` is put before the lines at these
-/// places, which are comments. A place has the path that its file had before it was cut. `NotRead`
-/// where the files define no table any more, which never comes of comments.
+/// The files of a cut that was made for the folder `dir`, where `# can act: ` is put before the
+/// lines at these places, which are comments. A place has the path that its file had before it was
+/// cut. `NotRead` where the files define no table any more, which never comes of comments.
 pub fn mark_lines(
     alloc: Global,
     of: &CutTable,
