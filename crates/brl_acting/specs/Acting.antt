@@ -6,7 +6,7 @@ use Rattle.std.specs.List.{enumerate_from, list_all, list_any}
 use Rattle.std.specs.Option.{option_map_or}
 use Rattle.std.specs.Str.{bytes_eq}
 use Rattle.brl_acting.specs.Capitals.{has_opcode, pair_chars}
-use Rattle.brl_acting.specs.Forms.{form_of, is_definition, is_placed}
+use Rattle.brl_acting.specs.Forms.{is_definition, is_placed}
 use Rattle.brl_acting.specs.Readings.{KeptRule, Known, known_of}
 use Rattle.brl_acting.specs.Sets.{is_one_of}
 use Rattle.brl_acting.specs.Tests.{is_class_met, is_pass_item_met, is_test_met, is_text_item_met}
@@ -205,7 +205,7 @@ kept_acts known place parts (Some form) = not parts.nofor && differs_by known pl
 -- before, always can: for liblouis the two are one.
 abbrev pub can_act : Known → ℕ → LineParts → Bool
 can_act known place parts =
-    parts.continued || (if parts.kept then kept_acts known place parts (form_of (word_at parts.words 0)) else faulty_acts known parts (form_of (word_at parts.words 0)))
+    parts.continued || (if parts.kept then kept_acts known place parts parts.form else faulty_acts known parts parts.form)
 
 -- the place of a line, if it can act
 abbrev pub acting_at : Known → ℕ × LineParts → List ℕ

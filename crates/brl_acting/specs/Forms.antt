@@ -102,5 +102,5 @@ form_in (entry ∷ others) word = if is_one_of entry.1 word then Some entry.0 el
 
 -- the form of an opcode's needs; none for a word that is no opcode, and for one whose lines aren't
 -- understood
-abbrev pub form_of : List ℕ → Option Form
+unfoldable pub form_of : List ℕ → Option Form
 form_of word = option_or (line_form word) (option_or (form_in indicator_forms word) (form_in other_forms word))

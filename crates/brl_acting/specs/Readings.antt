@@ -7,7 +7,6 @@ use Rattle.brl_cells.specs.declared.fault.DotsFault.{DotsFault}
 use Rattle.brl_table.specs.Items.{parts_of}
 use Rattle.brl_acting.specs.Capitals.{Reach, bases_of, has_opcode, reach_by, reach_view}
 use Rattle.brl_acting.specs.Classes.{Classes, classes_by, besides_of, classes_of, classes_view, facts_by, noletsigns_of}
-use Rattle.brl_acting.specs.Forms.{form_of}
 use Rattle.brl_acting.specs.Sets.{is_in, set_view}
 use Rattle.brl_acting.specs.Words.{LineParts, chars_at, word_at}
 use Rattle.brl_acting.specs.declared.facts.Facts.{Facts}
@@ -35,7 +34,7 @@ is_rule other = false
 
 -- a line is a kept rule that is used
 abbrev pub gives_rule : LineParts → Bool
-gives_rule parts = parts.kept && not parts.nofor && is_rule (form_of (word_at parts.words 0))
+gives_rule parts = parts.kept && not parts.nofor && is_rule parts.form
 
 abbrev pub rule_if : ℕ → LineParts → Option (List ℕ) → List KeptRule
 rule_if place parts None = []
@@ -95,7 +94,7 @@ signs_if_near near signs chars = if list_all near chars then signs else []
 abbrev pub given_cells : (ℕ → Bool) → Facts → List ℕ → LineParts → List ℕ → List ℕ
 given_cells near facts signs parts chars =
     if has_opcode (codes "contraction") parts then signs_if_near near signs chars
-    else cells_at parts (dots_place near facts chars (form_of (word_at parts.words 0)))
+    else cells_at parts (dots_place near facts chars parts.form)
 
 -- the cells that a kept line gives texts over the alphabet
 abbrev pub cells_of : (ℕ → Bool) → Facts → List ℕ → LineParts → List ℕ

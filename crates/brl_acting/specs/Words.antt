@@ -9,13 +9,19 @@ use Rattle.brl_lines.specs.Escapes.{characters_of}
 use Rattle.brl_lines.specs.Tokens.{LineView}
 use Rattle.brl_lines.specs.Views.{line_view}
 use Rattle.brl_lines.specs.declared.operand.CharsFault.{CharsFault}
+use Rattle.brl_acting.specs.Forms.{form_of}
 use Rattle.brl_acting.specs.Sets.{is_one_of}
+use Rattle.brl_acting.specs.declared.form.Form.{Form}
 use Rattle.brl_acting.specs.declared.parts.Parts.{Parts}
 use Rattle.brl_acting.specs.declared.table_line.TableLine.{TableLine}
 
 -- the words of a line, its opcode first
 abbrev pub words_of : LineView → List (List ℕ)
 words_of line = line.opcode.text ∷ map (λ token. token.text) line.operands
+
+-- the word at a place; an empty one past the end
+abbrev pub word_at : List (List ℕ) → ℕ → List ℕ
+word_at words place = unwrap_or (slice_get words place) []
 
 -- ---- Prefixes
 
@@ -51,14 +57,15 @@ abbrev pub classes_of_prefixes : List (List ℕ) → List (List ℕ)
 classes_of_prefixes prefixes = filter names_class prefixes
 
 -- A line as its needs see it: whether it is kept, whether it is a line with its neighbour, whether
--- `nofor` is among its prefixes, the classes that `before` and `after` name, and its opcode with
--- the operands.
+-- `nofor` is among its prefixes, the classes that `before` and `after` name, its opcode with the
+-- operands, and the form of the opcode's needs.
 pub record LineParts : Type 0 where
   pub kept : Bool
   pub continued : Bool
   pub nofor : Bool
   pub classes : List (List ℕ)
   pub words : List (List ℕ)
+  pub form : Option Form
 
 -- the parts of these words
 abbrev pub parts_by : Bool → Bool → List (List ℕ) → LineParts
@@ -68,6 +75,7 @@ parts_by kept continued words = record {
   nofor = list_any (bytes_eq (codes "nofor")) (prefix_words words);
   classes = classes_of_prefixes (prefix_words words);
   words = after_prefixes words;
+  form = form_of (word_at (after_prefixes words) 0);
 }
 
 -- a line of a table: whether a cut keeps it, and whether it is one line with its neighbour
@@ -90,6 +98,7 @@ parts_view parts = record {
   nofor = parts.nofor;
   classes = map (λ word. word.now) parts.classes.items;
   words = map (λ word. word.now) parts.words.items;
+  form = parts.form;
 }
 
 -- ---- Characters
@@ -128,10 +137,6 @@ all_chars_if word (Err fault) = if has_numbers_alone word then Some (no_characte
 
 abbrev pub all_chars_in : List ℕ → Option (List ℕ)
 all_chars_in word = all_chars_if word (characters_of word)
-
--- the word at a place; an empty one past the end
-abbrev pub word_at : List (List ℕ) → ℕ → List ℕ
-word_at words place = unwrap_or (slice_get words place) []
 
 -- the characters of the word at a place, where there is one
 abbrev pub chars_at : List (List ℕ) → ℕ → Option (List ℕ)

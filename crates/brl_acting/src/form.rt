@@ -209,6 +209,7 @@ fn never_acts(word: &str) -> bool
 
 /// The form of an opcode's needs. `None` for a word that is no opcode, or whose lines aren't
 /// understood.
+#[tactic(auto, unfolding(crate::specs::Forms::form_of))]
 pub(crate) fn form_of(word: &str) -> Option<Form>
     ensures { result ≡ form_by word.now }
 {

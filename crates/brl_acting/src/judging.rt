@@ -4,11 +4,9 @@ ghost use Rattle.brl_acting.specs.Acting.{acting_at, acting_lines, acting_of, ca
 ghost use Rattle.brl_acting.specs.Readings.{known_view};
 ghost use Rattle.brl_acting.specs.Words.{parts_of, parts_view, table_line_view};
 
-use crate::form::form_of;
 use crate::kept::kept_acts;
 use crate::known::{Known, known_of};
 use crate::left_out::faulty_acts;
-use crate::operand::word_at;
 use crate::parts::{Parts, parts_of_lines};
 use crate::table_line::TableLine;
 use std::alloc::{AllocError, Global};
@@ -25,11 +23,10 @@ fn can_act(
     if parts.continued {
         return Ok(true);
     }
-    let form = form_of(word_at(parts.words.as_slice(), 0));
     if parts.kept {
-        kept_acts(alloc, known, place, parts, form)
+        kept_acts(alloc, known, place, parts)
     } else {
-        faulty_acts(alloc, known, parts, form)
+        faulty_acts(alloc, known, parts)
     }
 }
 

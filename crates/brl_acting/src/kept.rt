@@ -325,11 +325,10 @@ pub(crate) fn kept_acts(
     known: &Known<'_>,
     place: usize,
     parts: &Parts<'_>,
-    form: Option<Form>,
 ) -> Result<bool, AllocError>
-    ensures { IfOk result (λ acts. acts ≡ kept_acts_by (known_view known.now) place (parts_view parts.now) form) }
+    ensures { IfOk result (λ acts. acts ≡ kept_acts_by (known_view known.now) place (parts_view parts.now) parts.now.form) }
 {
-    let Some(form) = form else {
+    let Some(form) = parts.form else {
         return Ok(false);
     };
     if parts.nofor {

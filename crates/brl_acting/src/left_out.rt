@@ -209,11 +209,10 @@ pub(crate) fn faulty_acts(
     alloc: Global,
     known: &Known<'_>,
     parts: &Parts<'_>,
-    form: Option<Form>,
 ) -> Result<bool, AllocError>
-    ensures { IfOk result (λ acts. acts ≡ faulty_acts_by (known_view known.now) (parts_view parts.now) form) }
+    ensures { IfOk result (λ acts. acts ≡ faulty_acts_by (known_view known.now) (parts_view parts.now) parts.now.form) }
 {
-    let Some(form) = form else {
+    let Some(form) = parts.form else {
         return Ok(true);
     };
     if parts.nofor && !is_defining(form) {

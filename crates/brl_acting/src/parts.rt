@@ -3,7 +3,8 @@ ghost use Rattle.std.specs.Prelude.{◌≡◌, IfOk, map};
 ghost use Rattle.brl_lines.specs.Views.{line_view};
 ghost use Rattle.brl_acting.specs.Words.{after_prefixes as words_after_prefixes, classes_of_prefixes, names_class as is_class, opcode_of as opcode_of_line, parts_of as parts_by, parts_view, table_line_view, prefix_length as length_of_prefix, prefix_words as words_of_prefixes, words_of as words_of_line};
 
-use crate::form::is_among;
+use crate::form::{Form, form_of, is_among};
+use crate::operand::word_at;
 use crate::table_line::TableLine;
 use brl_lines::Line;
 use std::alloc::{AllocError, Global};
@@ -19,6 +20,8 @@ pub(crate) struct Parts<'a> {
     pub classes: Vec<&'a str>,
     /// The opcode and the operands.
     pub words: Vec<&'a str>,
+    /// The form of the opcode's needs.
+    pub form: Option<Form>,
 }
 
 /// The words of a line, its opcode first.
@@ -106,6 +109,7 @@ fn parts_of<'a>(alloc: Global, line: &TableLine<'_, 'a>) -> Result<Parts<'a>, Al
         nofor: is_among("nofor", prefixes),
         classes: classes_in(alloc, prefixes)?,
         words: Vec::from_slice(alloc, after)?,
+        form: form_of(word_at(after, 0)),
     })
 }
 

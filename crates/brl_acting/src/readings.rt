@@ -12,7 +12,7 @@ use crate::bases::has_opcode;
 use crate::char_set::CharSet;
 use crate::class_pairs::chars_or;
 use crate::facts::Facts;
-use crate::form::{Form, form_of};
+use crate::form::Form;
 use crate::operand::word_at;
 use crate::parts::Parts;
 use crate::rules::{Rule, rules_of};
@@ -184,8 +184,7 @@ fn push_given(
     if has_opcode(parts, "contraction") {
         return push_if_near(cells, given.near, given.signs, chars);
     }
-    let form = form_of(word_at(parts.words.as_slice(), 0));
-    let place = dots_place(given.near, given.facts, chars, form);
+    let place = dots_place(given.near, given.facts, chars, parts.form);
     push_cells_at(alloc, cells, parts, place)
 }
 

@@ -3,7 +3,7 @@ ghost use Rattle.std.specs.Prelude.{◌≡◌, ◌++◌, IfOk, OnOk, map};
 ghost use Rattle.brl_acting.specs.Readings.{gives_rule as gives_rule_by, is_rule as is_rule_by, rule_at as rule_by, rule_view, rules_of as rules_by};
 ghost use Rattle.brl_acting.specs.Words.{parts_view};
 
-use crate::form::{Form, form_of};
+use crate::form::Form;
 use crate::operand::{chars_at, word_at};
 use crate::parts::Parts;
 use std::alloc::{AllocError, Global};
@@ -29,7 +29,7 @@ fn is_rule(form: Option<Form>) -> bool
 fn gives_rule(parts: &Parts<'_>) -> bool
     ensures { result ≡ gives_rule_by (parts_view parts.now) }
 {
-    parts.kept && !parts.nofor && is_rule(form_of(word_at(parts.words.as_slice(), 0)))
+    parts.kept && !parts.nofor && is_rule(parts.form)
 }
 
 /// Adds the rule of a line at a place, if it is one that is kept and used.

@@ -8,24 +8,17 @@ use Rattle.brl_lines.specs.Answer.{FileAnswers}
 use Rattle.brl_lines.specs.GatherFaults.{IsGathered, gathered_view}
 use Rattle.brl_lines.specs.Gathered.{left_view}
 use Rattle.brl_lines.specs.Gathering.{LeftView}
+use Rattle.brl_lines.specs.Tokens.{LineView}
 use Rattle.brl_lines.specs.declared.way.LeftInclude.{LeftInclude}
 use Rattle.brl_lines.specs.declared.gathering.Gathered.{Gathered}
-use Rattle.brl_lines.specs.declared.fault.LoadFault.{LoadFault}
 use Rattle.brl_rules.specs.TableView.{TableView}
 use Rattle.brl_table.specs.declared.no_table.NoTable.{NoTable}
-use Rattle.brl_cut.specs.Cuts.{include_edit, IsCutFault, IsCutOf, IsUncut, IsUnreadAs, IsUnwritten, without_include_lines, written_root}
+use Rattle.brl_cut.specs.Cuts.{AreWhole, include_edit, IsCutFault, IsCutOf, IsUncut, IsUnreadAs, IsUnwritten, without_include_lines, written_root}
 use Rattle.brl_cut.specs.Edits.{EditView, Texts, edited_files}
 use Rattle.brl_cut.specs.Files.{file_view}
-use Rattle.brl_cut.specs.Rounds.{SettlesTo}
 use Rattle.brl_table.specs.declared.readable.Cut.{Cut}
 use Rattle.brl_cut.specs.declared.cutting.CutFault.{CutFault}
 use Rattle.brl_cut.specs.declared.cutting.CutFault.TheVariants.{Gather, Load, NotRead}
-use Rattle.brl_cut.specs.declared.rounds.Settled.{Settled}
-
--- what files were settled to, where they were
-pub settled-as : (folders : List (List ℕ)) (root : List ℕ) (files start : Texts) (step : Result Settled (Failure LoadFault)) (settled : Settled) → step ≡ Ok settled → IfOk step (SettlesTo folders root files) → files ≡ start → SettlesTo folders root start settled
-settled-as folders root files start step settled e h same =
-    subst (λ (fs : Texts). SettlesTo folders root fs settled) same (subst (λ (r : Result Settled (Failure LoadFault)). IfOk r (SettlesTo folders root files)) e h)
 
 -- files where include lines are comments are those without these
 pub without-is : (left : List LeftInclude) (new files : Texts) → new ≡ edited_files (map (λ l. include_edit (left_view l)) left) files → new ≡ without_include_lines (map left_view left) files
@@ -50,13 +43,16 @@ module _ (rewrite : Bool) (gives : FileAnswers) (root dir : List ℕ) (gathered 
   pub cut-in : (cut : Cut) → IsCutOf rewrite folders (gathered_view gathered) root dir cut → IsCutOf rewrite gives.folders (gathered_view gathered) root dir cut
   cut-in cut h = subst (λ (fs : List (List ℕ)). IsCutOf rewrite fs (gathered_view gathered) root dir cut) looked h
 
+  pub whole-in : (lines : List LineView) → AreWhole folders root (gathered_view gathered) lines → AreWhole gives.folders root (gathered_view gathered) lines
+  whole-in lines h = subst (λ (fs : List (List ℕ)). AreWhole fs root (gathered_view gathered) lines) looked h
+
   uncut-fault : (why : CutFault) → IsUncut rewrite gives.folders root dir (gathered_view gathered) why → IsCutFault rewrite gives root dir why
   uncut-fault (Gather why) h = absurd h
   uncut-fault (Load why) h = (gathered, is, h)
   uncut-fault (NotRead why) h = (gathered, is, h)
 
-  pub cut-fault : (result : Result Cut (Failure CutFault)) → IfErr result (IfFault (IsUncut rewrite folders root dir (gathered_view gathered))) → IfErr result (IfFault (IsCutFault rewrite gives root dir))
-  cut-fault (Ok cut) h = tt
+  pub cut-fault : {T : Type 0} (result : Result T (Failure CutFault)) → IfErr result (IfFault (IsUncut rewrite folders root dir (gathered_view gathered))) → IfErr result (IfFault (IsCutFault rewrite gives root dir))
+  cut-fault (Ok value) h = tt
   cut-fault (Err failure) h =
       if_fault-weaker (IsUncut rewrite folders root dir (gathered_view gathered)) (IsCutFault rewrite gives root dir) failure
       (λ why told. uncut-fault why (subst (λ (fs : List (List ℕ)). IsUncut rewrite fs root dir (gathered_view gathered) why) looked told)) h

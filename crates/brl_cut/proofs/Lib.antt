@@ -5,5 +5,4 @@ pub mod PlaceLemmas
 pub mod RewriteLemmas
 pub mod RoundLemmas
 pub mod SkipLemmas
-pub mod StepLemmas
 pub mod WholeLines

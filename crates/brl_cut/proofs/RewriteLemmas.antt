@@ -1,6 +1,9 @@
 -- Facts of lines that are rewritten.
-use Rattle.std.proofs.Common.{◌≡◌, ◌∙◌, ℕ, ◌<◌, ◌≤◌, ◌&&◌, ◌==◌, List, [], ◌∷◌, ◌++◌, ap, arith, false, get_or, length, map, not, refl, sym}
-use Rattle.std.proofs.lemmas.List.{append-nil, length-map}
+use Rattle.std.proofs.Common.{◌≡◌, ◌∙◌, ℕ, ◌+◌, ◌<◌, ◌≤◌, ◌&&◌, ◌==◌, List, [], ◌∷◌, ◌++◌, ap, arith, false, flat_map, get_or, length, map, not, refl, slice_get, sym, take}
+use Rattle.std.specs.Option.{option_map_or}
+use Rattle.std.proofs.lemmas.Grind.{flat_map-append}
+use Rattle.std.proofs.lemmas.Option.{slice_get-get_or}
+use Rattle.std.proofs.lemmas.List.{append-nil, length-map, take_more}
 use Rattle.brl_acting.specs.Letters.{Letters}
 use Rattle.brl_lines.specs.Tokens.{LineView}
 use Rattle.brl_lines.specs.Views.{token_view}
@@ -49,3 +52,13 @@ pub more-chars : (letters : Letters) (chars : List ℕ) (default other first sec
 more-chars letters [] default other first second many is also = absurd (omega arith)
 more-chars letters (c ∷ []) default other first second many is also = absurd (omega arith)
 more-chars letters (c ∷ d ∷ others) default other first second many is also = λ j. letters.takes_sign (sym is j) && not (letters.is_letter (sym also j))
+
+-- the lines of one item more
+pub entries-more : {X : Type 0} (f : X → List ℕ) (xs : List X) (i : ℕ) → i < length xs → flat_map f (take i xs) ++ option_map_or f (slice_get xs i) [] ≡ flat_map f (take (i + 1) xs)
+entries-more f [] i within = absurd (omega arith)
+entries-more f (y ∷ ys) i within =
+    let xs = y ∷ ys in
+    let x = get_or xs i y in
+    ap (λ found. flat_map f (take i xs) ++ option_map_or f found []) (slice_get-get_or xs i y within)
+    ∙ ap (λ line. flat_map f (take i xs) ++ line) (sym (append-nil (f x)))
+    ∙ sym (ap (flat_map f) (take_more xs i y within) ∙ flat_map-append f (take i xs) (x ∷ []))

@@ -1,5 +1,5 @@
 -- The lines of files in memory, and rounds.
-use Rattle.std.proofs.Common.{◌≡◌, ◌∙◌, ℕ, List, IfErr, IfOk, ap, sym, Some, Result, Ok, Err}
+use Rattle.std.proofs.Common.{◌≡◌, ◌∙◌, ℕ, List, IfErr, IfOk, ap, map, suc, sym, Some, Result, Ok, Err}
 use Rattle.brl_failure.specs.Failure.{GivesAs}
 use Rattle.brl_failure.specs.declared.failure.Failure.{Failure}
 use Rattle.brl_failure.specs.declared.failure.Failure.TheVariants as failures
@@ -12,11 +12,11 @@ use Rattle.brl_lines.specs.Views.{load_fault_view}
 use Rattle.brl_lines.specs.declared.fault.LoadFault.{LoadFault}
 use Rattle.brl_lines.specs.Tokens.{LineView}
 use Rattle.brl_lines.specs.declared.map_source.MapSource.{MapSource}
-use Rattle.brl_table.specs.Survey.{survey_of}
+use Rattle.brl_table.specs.Survey.{FaultyLineView, survey_of}
 use Rattle.brl_cut.specs.Cuts.{only}
-use Rattle.brl_cut.specs.Edits.{Texts}
+use Rattle.brl_cut.specs.Edits.{EditView, Texts, edited_files}
 use Rattle.brl_cut.specs.Files.{HoldsFiles}
-use Rattle.brl_cut.specs.Settling.{faulty_among, faulty_in, lines_among}
+use Rattle.brl_cut.specs.Settling.{after_rounds, fault_edit, faulty_among, faulty_in, lines_among}
 
 -- a source that has just these files gives the table these lines
 pub lines-held : (folders : List (List ℕ)) (files : Texts) (source : MapSource) (root : List ℕ) → HoldsFiles folders files source
@@ -40,3 +40,13 @@ faulty-found folders root files lines e = ap faulty_among e
 -- it answers what these files do, where there are no others
 pub only-held : (folders : List (List ℕ)) (files : Texts) (source : MapSource) → HoldsFiles folders files source → given_in source ≡ only folders files
 only-held folders files source held = λ j. record { folders = held.1 j; may = λ path answer. same_answer answer (answer_of (held.0 path j)) }
+
+module _ (folders : List (List ℕ)) (root : List ℕ) (start files : Texts) (rounds : ℕ) (now : files ≡ after_rounds rounds folders root start) (faulty : List FaultyLineView) (lines : List LineView)
+    (lines_are : lines_among folders files root ≡ Ok lines) (faulty_are : faulty ≡ (survey_of lines).faulty) where
+  -- the faulty lines of the files after some rounds
+  pub faulty-after : faulty ≡ faulty_in folders root (after_rounds rounds folders root start)
+  faulty-after = faulty_are ∙ sym (faulty-found folders root files lines lines_are) ∙ ap (faulty_in folders root) now
+
+  -- and the files after one round more
+  pub files-after : (edits : List EditView) (new : Texts) → edits ≡ map fault_edit faulty → new ≡ edited_files edits files → new ≡ after_rounds (suc rounds) folders root start
+  files-after edits new edits_are e = e ∙ (λ j. edited_files ((edits_are ∙ ap (map fault_edit) faulty-after) j) (now j))

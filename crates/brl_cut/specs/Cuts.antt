@@ -1,10 +1,12 @@
 -- The readable part of a table as files of their own. The project's own choice.
-use Rattle.std.specs.Prelude.{ℕ, Bool, ◌≡◌, List, [], ◌∷◌, ◌++◌, codes, map, string_bytes, zip}
+use Rattle.std.specs.Prelude.{ℕ, Bool, ◌≡◌, ◌⊎◌, List, [], ◌∷◌, ◌++◌, codes, map, string_bytes, zip, Ok, Err}
 use Rattle.brl_lines.specs.Answer.{FileAnswers, answer_of, same_answer}
 use Rattle.brl_lines.specs.GatherFaults.{IsGatherFault, IsGathered, gathered_view}
 use Rattle.brl_lines.specs.Gathering.{GatheredView, LeftView}
 use Rattle.brl_lines.specs.Includes.{last_part, path_in}
 use Rattle.brl_lines.specs.Tokens.{LineView}
+use Rattle.brl_lines.specs.Views.{load_fault_view}
+use Rattle.brl_lines.specs.declared.fault.LoadFault.{LoadFault}
 use Rattle.brl_lines.specs.declared.gathering.Gathered.{Gathered}
 use Rattle.brl_lines.specs.declared.way.IncludeReason.{IncludeReason}
 use Rattle.brl_lines.specs.declared.way.IncludeReason.TheVariants.{Dictionary, Missing, Repeated}
@@ -19,7 +21,7 @@ use Rattle.brl_cut.specs.Files.{file_view}
 use Rattle.brl_cut.specs.Letsigns.{made_name}
 use Rattle.brl_cut.specs.Rewriting.{Around, RewrittenView, count_rewritten, rewritten}
 use Rattle.brl_cut.specs.Rounds.{IsUnsettled}
-use Rattle.brl_cut.specs.Settling.{IsSettled, bytes_at, comment, fault_edit}
+use Rattle.brl_cut.specs.Settling.{IsSettled, bytes_at, comment, fault_edit, lines_among}
 use Rattle.brl_table.specs.declared.readable.Cut.{Cut}
 use Rattle.brl_cut.specs.declared.cutting.CutTable.{CutTable}
 use Rattle.brl_cut.specs.declared.cutting.CutFault.{CutFault}
@@ -77,6 +79,12 @@ finished new found gathered = edited_files (new.edits ++ map fault_edit found) (
 abbrev pub all_names : RewrittenView → GatheredView → List (List ℕ)
 all_names new gathered = gathered.names ++ map (λ file. made_name) new.made
 
+-- these files can't be loaded as they are, or those that are rewritten can't be settled
+abbrev pub IsUnloaded : Bool → Around → Texts → LoadFault → Type 0
+IsUnloaded rewrite around files why =
+    (lines_among around.folders files around.root ≡ Err (load_fault_view why))
+    ⊎ IsUnsettled around.folders around.root (rewritten rewrite around files).files why
+
 -- ---- Where the files are written
 
 -- the path where the root that has a path is written into a folder: under the last part of its path
@@ -128,17 +136,22 @@ abbrev pub IsUnwritten : Texts → List ℕ → List ℕ → CutFault → Type 0
 IsUnwritten files root dir (NotRead why) = IsUnreadAs files (written_root dir root) why
 IsUnwritten files root dir other = ⊥
 
+-- the files that were gathered, without the include lines that are left out, have these lines
+abbrev pub AreWhole : List (List ℕ) → List ℕ → GatheredView → List LineView → Type 0
+AreWhole folders root gathered lines = lines_among folders (without_includes gathered) root ≡ Ok lines
+
 -- the cut of the table whose root has a path, for answers of the source: of these files, as they
--- were gathered; and its files define this table
+-- were gathered; with the lines that they had; and its files define this table
 abbrev pub IsCut : Bool → FileAnswers → List ℕ → List ℕ → CutTable → Type 0
 IsCut rewrite gives root dir of =
-    IsGathered gives root of.gathered × IsCutOf rewrite gives.folders (gathered_view of.gathered) root dir of.cut
+    IsGathered gives root of.gathered × AreWhole gives.folders root (gathered_view of.gathered) of.whole.lines
+    × IsCutOf rewrite gives.folders (gathered_view of.gathered) root dir of.cut
     × IsReadAs (map file_view of.cut.files.items) (written_root dir root) of.table
 
--- files that were gathered can't be settled, or what is written is no table
+-- files that were gathered can't be loaded or settled, or what is written is no table
 abbrev pub IsUncut : Bool → List (List ℕ) → List ℕ → List ℕ → GatheredView → CutFault → Type 0
 IsUncut rewrite folders root dir gathered (Gather why) = ⊥
-IsUncut rewrite folders root dir gathered (Load why) = IsUnsettled folders root (start rewrite folders root gathered).files why
+IsUncut rewrite folders root dir gathered (Load why) = IsUnloaded rewrite (around_of folders root gathered) (without_includes gathered) why
 IsUncut rewrite folders root dir gathered (NotRead why) =
     (cut : Cut) × IsCutOf rewrite folders gathered root dir cut × IsUnreadAs (map file_view cut.files.items) (written_root dir root) why
 

@@ -1,6 +1,6 @@
 -- Lines that are rewritten, so that they are read. A line is rewritten by what is put before it: a
 -- line that is read, and the mark of a comment. The project's own choice.
-use Rattle.std.specs.Prelude.{ℕ, Bool, ◌&&◌, nat_eq, not, if◌then◌else◌, List, [], ◌∷◌, ◌++◌, codes, filter, flat_map, fold, is_some, length, map, option_map, Option, Some, None, Result, Ok, Err}
+use Rattle.std.specs.Prelude.{ℕ, Bool, ◌&&◌, nat_eq, not, if◌then◌else◌, List, [], ◌∷◌, ◌++◌, codes, filter, flat_map, is_some, length, map, option_map, Option, Some, None, Result, Ok, Err}
 use Rattle.std.specs.List.{list_any}
 use Rattle.std.specs.Map.{lookup}
 use Rattle.std.specs.Option.{option_and_then, option_map_or}
@@ -19,8 +19,6 @@ use Rattle.brl_cut.specs.Letsigns.{include_edit, is_taken, known_of, made_file, 
 use Rattle.brl_cut.specs.Putting.{edit_if_put, line_in_place, words_in_place}
 use Rattle.brl_cut.specs.Settling.{lines_among}
 use Rattle.brl_cut.specs.Signs.{SignView, letsign_of}
-use Rattle.brl_cut.specs.declared.rewriting.Form.{Form}
-use Rattle.brl_cut.specs.declared.rewriting.Form.TheVariants.{Noback, Base}
 
 -- ---- Lines that begin with `noback`
 
@@ -89,29 +87,7 @@ lines_or_none (Err refused) = []
 abbrev pub known_lines : List (List ℕ) → List ℕ → Texts → List LineView
 known_lines folders root files = lines_or_none (lines_among folders files root)
 
--- ---- Steps
-
--- the edits that rewrite lines of a form
-abbrev pub edits_of_form : Form → List LineView → List EditView
-edits_of_form Noback lines = noback_edits lines
-edits_of_form Base lines = base_edits lines
-
--- the edits that rewrite lines of a form in these files, and the files after them
-abbrev pub step_edits : List (List ℕ) → List ℕ → Form → Texts → List EditView
-step_edits folders root form files = edits_of_form form (known_lines folders root files)
-
-abbrev pub after_step : List (List ℕ) → List ℕ → Form → Texts → Texts
-after_step folders root form files = edited_files (step_edits folders root form files) files
-
--- the edits of one step after another, and the files after all
-abbrev pub steps_edits : List (List ℕ) → List ℕ → List Form → Texts → List EditView
-steps_edits folders root [] files = []
-steps_edits folders root (form ∷ forms) files = step_edits folders root form files ++ steps_edits folders root forms (after_step folders root form files)
-
-abbrev pub after_steps : List (List ℕ) → List ℕ → List Form → Texts → Texts
-after_steps folders root forms files = fold (λ texts form. after_step folders root form texts) files forms
-
--- ---- The last step: `contraction` and `letsign`
+-- ---- Lines that become definitions
 
 -- where the files of a table are: the folders in which they are looked for, their names, the path
 -- of the root, and that at which the root was found
@@ -120,6 +96,20 @@ pub record Around : Type 0 where
   pub names : List (List ℕ)
   pub root : List ℕ
   pub home : List ℕ
+
+-- the lines of files that are there
+abbrev pub lines_in : Around → Texts → List LineView
+lines_in around files = known_lines around.folders around.root files
+
+-- first the lines that begin with `noback` are rewritten, and in the files after that those that
+-- begin with `base uppercase`
+abbrev pub after_noback : Around → Texts → Texts
+after_noback around files = edited_files (noback_edits (lines_in around files)) files
+
+abbrev pub after_base : Around → Texts → Texts
+after_base around files = edited_files (base_edits (lines_in around files)) files
+
+-- ---- Lines that begin with `contraction` or `letsign`
 
 -- edits of files, and files that are made
 pub record Change : Type 0 where
@@ -154,7 +144,7 @@ change_by around files lines None = contraction_change lines
 abbrev pub last_change : Around → Texts → List LineView → Change
 last_change around files lines = change_by around files lines (letsign_of lines)
 
--- ---- All steps
+-- ---- All of them
 
 -- files that are rewritten: all edits, the files that are made, and the files after that
 pub record RewrittenView : Type 0 where
@@ -162,21 +152,24 @@ pub record RewrittenView : Type 0 where
   pub made : Texts
   pub files : Texts
 
--- files after edits, and after one change more
-abbrev pub then_changed : List EditView → Texts → Change → RewrittenView
-then_changed edits files change = record { edits = edits ++ change.edits; made = change.made; files = changed change files }
+abbrev pub with_definitions : Around → Texts → RewrittenView
+with_definitions around files = record {
+  edits = noback_edits (lines_in around files) ++ base_edits (lines_in around (after_noback around files));
+  made = [];
+  files = after_base around (after_noback around files);
+}
 
-abbrev pub steps : List Form
-steps = Noback ∷ Base ∷ []
+-- files that were rewritten, after one change more
+abbrev pub then_changed : RewrittenView → Change → RewrittenView
+then_changed before change = record { edits = before.edits ++ change.edits; made = change.made; files = changed change before.files }
 
-abbrev pub with_last_change : Around → List EditView → Texts → RewrittenView
-with_last_change around edits files = then_changed edits files (last_change around files (known_lines around.folders around.root files))
+abbrev pub with_last_change : Around → RewrittenView → RewrittenView
+with_last_change around before = then_changed before (last_change around before.files (lines_in around before.files))
 
 -- these files rewritten, where this is asked for
 abbrev pub rewritten : Bool → Around → Texts → RewrittenView
 rewritten rewrite around files =
-    if rewrite then with_last_change around (steps_edits around.folders around.root steps files) (after_steps around.folders around.root steps files)
-    else record { edits = []; made = []; files = files }
+    if rewrite then with_last_change around (with_definitions around files) else record { edits = []; made = []; files = files }
 
 -- ---- How many
 

@@ -1,25 +1,25 @@
 //! The readable part of a table.
 ghost use Rattle.std.specs.Prelude.{◌≡◌, ◌++◌, IfErr, IfOk, OnOk, map, string_bytes};
-ghost use Rattle.brl_failure.specs.Failure.{GivesAs, IfFault};
+ghost use Rattle.brl_failure.specs.Failure.{IfFault};
 ghost use Rattle.brl_lines.specs.GatherFaults.{gathered_view};
-ghost use Rattle.brl_lines.specs.Views.{load_fault_view, location_view};
-ghost use Rattle.brl_cut.specs.Cuts.{IsCut, IsCutFault, IsCutOf, IsRead, IsReadAs, IsUncut, IsUnreadAs, IsUnwritten, all_names as all_names_of, finished, home_of as home_by, without_includes, written_root as written_root_of};
+ghost use Rattle.brl_lines.specs.Views.{location_view};
+ghost use Rattle.brl_cut.specs.Cuts.{AreWhole, IsCut, IsCutFault, IsCutOf, IsRead, IsReadAs, IsUncut, IsUnreadAs, IsUnwritten, all_names as all_names_of, finished, home_of as home_by, without_includes, written_root as written_root_of};
 ghost use Rattle.brl_cut.specs.Letsigns.{made_name};
 ghost use Rattle.brl_cut.specs.Marks.{mark, marked_file, marked_files};
 ghost use Rattle.brl_cut.specs.RewritingViews.{rewritten_view};
 ghost use Rattle.brl_table.specs.Survey.{faulty_line_view};
 ghost use Rattle.brl_cut.specs.Edits.{edited_files};
 ghost use Rattle.brl_cut.specs.Files.{edit_view, file_view};
-ghost use Rattle.brl_cut.specs.Settling.{fault_edit, lines_among};
+ghost use Rattle.brl_cut.specs.Settling.{fault_edit};
 
 use crate::files::{
-    BecomesComment, Edit, copies, edit_bytes, edit_files, edits_of, load_files, source_of,
-    with_comments,
+    BecomesComment, Edit, copies, edit_bytes, edit_files, edits_of, source_of, with_comments,
 };
 use crate::includes::include_faults;
 use crate::placing::{place_files, written_root};
-use crate::rewriting::{Around, MADE_NAME, Rewritten, count_rewritten, rewrite_files};
-use crate::rounds::{Settled, settle};
+use crate::rewriting::{Around, MADE_NAME, count_rewritten};
+use crate::rounds::Settled;
+use crate::starting::{Started, start_cut};
 use brl_failure::{Failure, raise};
 use brl_lines::{GatherFault, Gathered, GatheredFile, LoadFault, Loaded, Location, Source, gather};
 use brl_rules::Table;
@@ -41,12 +41,22 @@ pub enum CutFault {
     NotRead(NoTable),
 }
 
-/// The files of a table, as they were gathered, the cut of it, and the table that this is.
+/// The files of a table, as they were gathered, its lines, the cut of it, and the table that this
+/// is.
 #[derive(Drop)]
 pub struct CutTable {
     pub gathered: Gathered,
+    /// All lines of the files, without the include lines that are left out.
+    pub whole: Loaded,
     pub cut: Cut,
     pub table: Table,
+}
+
+/// The lines of gathered files, and their cut.
+#[derive(Drop)]
+struct CutFiles {
+    pub whole: Loaded,
+    pub cut: Cut,
 }
 
 /// The table whose root is at a path, of these files and no others, which are looked for in no
@@ -71,20 +81,6 @@ fn read_written(
 {
     let written = written_root(alloc, dir, root)?;
     raise(read_back(alloc, files, written.as_str()), CutFault::NotRead)
-}
-
-/// All lines of a table whose files are gathered, and were looked for in these folders too, as they
-/// were: without the include lines that are left out. The fault is why they can't be loaded.
-pub fn load_whole(
-    alloc: Global,
-    folders: &[String],
-    gathered: &Gathered,
-    root: &str,
-) -> Result<Loaded, Failure<LoadFault>>
-    ensures { GivesAs (λ loaded. loaded.lines) load_fault_view (lines_among (map string_bytes folders.now) (without_includes (gathered_view gathered.now)) root.now) result }
-{
-    let files = without_left_out(alloc, gathered)?;
-    load_files(alloc, folders, files.as_slice(), root)
 }
 
 /// The path of the file of each place.
@@ -199,10 +195,18 @@ pub fn cut_table<S: Source>(
     ensures same { S.gives source.new ≡ S.gives source.old }
 {
     let gathered = raise(gather(alloc, source, root), CutFault::Gather)?;
-    let cut = cut_gathered(alloc, source.folders(), &gathered, root, dir, rewrite)?;
+    let CutFiles { whole, cut } = cut_gathered(
+        alloc,
+        source.folders(),
+        &gathered,
+        root,
+        dir,
+        rewrite,
+    )?;
     let table = read_written(alloc, cut.files.as_slice(), root, dir)?;
     Ok(CutTable {
         gathered,
+        whole,
         cut,
         table,
     })
@@ -314,8 +318,9 @@ fn cut_gathered<'a>(
     root: &'a str,
     dir: &str,
     rewrite: bool,
-) -> Result<Cut, Failure<CutFault>>
-    ensures cut { IfOk result (IsCutOf rewrite (map string_bytes folders.entry.now) (gathered_view gathered.entry.now) root.entry.now dir.now) }
+) -> Result<CutFiles, Failure<CutFault>>
+    ensures whole { IfOk result (λ of. AreWhole (map string_bytes folders.entry.now) root.entry.now (gathered_view gathered.entry.now) of.whole.lines) }
+    ensures cut { IfOk result (λ of. IsCutOf rewrite (map string_bytes folders.entry.now) (gathered_view gathered.entry.now) root.entry.now dir.now of.cut) }
     ensures fault { IfErr result (IfFault (IsUncut rewrite (map string_bytes folders.entry.now) root.entry.now dir.now (gathered_view gathered.entry.now))) }
 {
     let all = gathered.files.as_slice();
@@ -325,9 +330,14 @@ fn cut_gathered<'a>(
         root,
         home: home_of(all, root),
     };
-    let start = without_left_out(alloc, gathered)?;
-    let Rewritten { files, edits, made } = rewrite_files(alloc, around, start, rewrite)?;
-    let settled = raise(settle(alloc, folders, files, root), CutFault::Load)?;
+    let files = without_left_out(alloc, gathered)?;
+    let started = raise(start_cut(alloc, around, files, rewrite), CutFault::Load)?;
+    let Started {
+        whole,
+        edits,
+        made,
+        settled,
+    } = started;
     let rewritten = count_rewritten(edits.as_slice(), settled.places.as_slice());
     let made = made.as_slice();
     let names = all_names(alloc, gathered.names.as_slice(), made)?;
@@ -338,11 +348,12 @@ fn cut_gathered<'a>(
     let Settled { mut found, places } = settled;
     left_out.append(&mut found)?;
     let line_files = files_of_places(alloc, places.as_slice())?;
-    Ok(Cut {
+    let cut = Cut {
         files: placed,
         paths,
         left_out,
         line_files,
         rewritten,
-    })
+    };
+    Ok(CutFiles { whole, cut })
 }

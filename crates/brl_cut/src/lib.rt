@@ -25,9 +25,10 @@ mod rewriting;
 mod rounds;
 mod signs;
 mod skipping;
+mod starting;
 mod text;
 
 pub use brl_table::Cut;
-pub use cutting::{CutFault, CutTable, cut_table, load_whole, mark_lines};
+pub use cutting::{CutFault, CutTable, cut_table, mark_lines};
 pub use placing::written_root;
 pub use skipping::{WithoutDictionaries, load_without_dictionaries};

@@ -1,5 +1,5 @@
 //! Rewrites lines of files, so that they are read.
-ghost use Rattle.std.specs.Prelude.{◌≡◌, [], ◌∷◌, ◌++◌, IfOk, filter, is_some, length, map, string_bytes};
+ghost use Rattle.std.specs.Prelude.{◌≡◌, [], ◌∷◌, ◌++◌, IfOk, Ok, filter, is_some, length, map, string_bytes};
 ghost use Rattle.std.specs.List.{list_any};
 ghost use Rattle.std.specs.Option.{option_map_or};
 ghost use Rattle.std.specs.Result.{is_ok};
@@ -10,7 +10,7 @@ ghost use Rattle.brl_cut.specs.Edits.{is_of};
 ghost use Rattle.brl_cut.specs.Files.{edit_view, file_view};
 ghost use Rattle.brl_cut.specs.LetsignViews.{known_view};
 ghost use Rattle.brl_cut.specs.Letsigns.{include_edit as include_edit_by, is_taken as is_taken_by, made_file, made_name, made_path, sign_edits as sign_edits_by};
-ghost use Rattle.brl_cut.specs.Rewriting.{after_steps, changed as changed_by, edits_of_form as edits_by_form, is_rewritten as is_rewritten_by, known_lines, last_change as last_change_by, may_change as may_change_by, rewritten as rewritten_by, step_edits as step_edits_by, steps_edits, with_last_change};
+ghost use Rattle.brl_cut.specs.Rewriting.{base_edits, changed as changed_by, is_rewritten as is_rewritten_by, known_lines, last_change as last_change_by, lines_in, may_change as may_change_by, noback_edits, rewritten as rewritten_by, with_definitions, with_last_change};
 ghost use Rattle.brl_cut.specs.RewritingViews.{around_view, change_from, change_view, contraction_change_of, contractions_of, rewritten_view, sign_change_of};
 ghost use Rattle.brl_cut.specs.Settling.{lines_among};
 ghost use Rattle.brl_cut.specs.Signs.{sign_view};
@@ -28,13 +28,6 @@ use std::alloc::{AllocError, Global};
 
 /// The name of the file that is made for a letter sign.
 pub(crate) const MADE_NAME: &str = "letsign-made.cti";
-
-/// A form of lines that are rewritten by themselves.
-#[derive(Clone, Copy)]
-pub(crate) enum Form {
-    Noback,
-    Base,
-}
 
 /// Where the files of a table are: the folders in which they are looked for, their names, and the
 /// path of the root.
@@ -90,50 +83,42 @@ fn lines_of(alloc: Global, loaded: &Option<Loaded>) -> Result<Vec<Line<'_>>, All
     }
 }
 
-/// The edits that rewrite lines of a form.
-fn edits_of_form(alloc: Global, form: Form, lines: &[Line<'_>]) -> Result<Vec<Edit>, AllocError>
-    ensures { IfOk result (λ edits. map edit_view edits.items ≡ edits_by_form form (map line_view lines.now)) }
-{
-    match form {
-        Form::Noback => noback_of_lines(alloc, lines),
-        Form::Base => base_of_lines(alloc, lines),
-    }
-}
-
-/// The edits that rewrite lines of a form in these files.
-fn step_edits(
+/// The edits of lines that begin with `base uppercase` in these files.
+fn base_edits_in(
     alloc: Global,
-    folders: &[String],
+    around: Around<'_>,
     files: &[GatheredFile],
-    root: &str,
-    form: Form,
 ) -> Result<Vec<Edit>, AllocError>
-    ensures { IfOk result (λ edits. map edit_view edits.items ≡ step_edits_by (map string_bytes folders.now) root.now form (map file_view files.now)) }
+    ensures { IfOk result (λ edits. map edit_view edits.items ≡ base_edits (lines_in (around_view around.entry) (map file_view files.now))) }
 {
-    let loaded = load_if_whole(alloc, folders, files, root)?;
+    let loaded = load_if_whole(alloc, around.folders, files, around.root)?;
     let lines = lines_of(alloc, &loaded)?;
-    edits_of_form(alloc, form, lines.as_slice())
+    base_of_lines(alloc, lines.as_slice())
 }
 
-/// Rewrites the lines of files, form by form.
-fn rewrite_forms(
-    alloc: Global,
-    folders: &[String],
-    files: Vec<GatheredFile>,
-    root: &str,
-    forms: &[Form],
-) -> Result<Rewritten, AllocError>
-    ensures files { IfOk result (λ new. map file_view new.files.items ≡ after_steps (map string_bytes folders.now) root.now forms.now (map file_view files.items)) }
-    ensures edits { IfOk result (λ new. map edit_view new.edits.items ≡ steps_edits (map string_bytes folders.now) root.now forms.now (map file_view files.items)) }
-    ensures none_made { IfOk result (λ new. new.made.items ≡ []) }
+/// The edits of lines that begin with `noback` in a table that was loaded.
+fn noback_edits_in(alloc: Global, loaded: &Loaded) -> Result<Vec<Edit>, AllocError>
+    ensures { IfOk result (λ edits. map edit_view edits.items ≡ noback_edits loaded.now.lines) }
 {
-    let mut files = files;
-    let mut edits = Vec::new(alloc);
-    for form in forms {
-        let mut more = step_edits(alloc, folders, files.as_slice(), root, *form)?;
-        files = edit_files(alloc, files.as_slice(), more.as_slice())?;
-        edits.append(&mut more)?;
-    }
+    let lines = loaded.lines(alloc)?;
+    noback_of_lines(alloc, lines.as_slice())
+}
+
+/// Rewrites the lines of files, which were loaded, that become definitions.
+fn rewrite_definitions(
+    alloc: Global,
+    around: Around<'_>,
+    whole: &Loaded,
+    files: &[GatheredFile],
+) -> Result<Rewritten, AllocError>
+    requires { lines_among (map string_bytes around.folders.now) (map file_view files.now) around.root.now ≡ Ok whole.now.lines }
+    ensures { IfOk result (λ new. rewritten_view new ≡ with_definitions (around_view around.entry) (map file_view files.now)) }
+{
+    let mut edits = noback_edits_in(alloc, whole)?;
+    let after = edit_files(alloc, files, edits.as_slice())?;
+    let mut more = base_edits_in(alloc, around, after.as_slice())?;
+    let files = edit_files(alloc, after.as_slice(), more.as_slice())?;
+    edits.append(&mut more)?;
     let made = Vec::new(alloc);
     Ok(Rewritten { files, edits, made })
 }
@@ -323,7 +308,7 @@ fn change_of_files(
     files: &[GatheredFile],
 ) -> Result<Change, AllocError>
     ensures { IfOk result (λ change. change_view change ≡
-        last_change_by (around_view around.entry) (map file_view files.now) (known_lines (around_view around.entry).folders around.entry.root.now (map file_view files.now))) }
+        last_change_by (around_view around.entry) (map file_view files.now) (lines_in (around_view around.entry) (map file_view files.now))) }
 {
     let loaded = load_if_whole(alloc, around.folders, files, around.root)?;
     let lines = lines_of(alloc, &loaded)?;
@@ -336,7 +321,7 @@ fn rewrite_last(
     around: Around<'_>,
     rewritten: Rewritten,
 ) -> Result<Rewritten, AllocError>
-    ensures { IfOk result (λ new. rewritten_view new ≡ with_last_change (around_view around.entry) (map edit_view rewritten.edits.items) (map file_view rewritten.files.items)) }
+    ensures { IfOk result (λ new. rewritten_view new ≡ with_last_change (around_view around.entry) (rewritten_view rewritten)) }
 {
     let Rewritten {
         files,
@@ -353,21 +338,26 @@ fn rewrite_last(
     })
 }
 
-/// Rewrites the lines of files, where this is asked for.
+/// Rewrites the lines of files, which were loaded, where this is asked for.
 pub(crate) fn rewrite_files(
     alloc: Global,
     around: Around<'_>,
+    whole: &Loaded,
     files: Vec<GatheredFile>,
     rewrite: bool,
 ) -> Result<Rewritten, AllocError>
+    requires { lines_among (map string_bytes around.folders.now) (map file_view files.items) around.root.now ≡ Ok whole.now.lines }
     ensures { IfOk result (λ new. rewritten_view new ≡ rewritten_by rewrite (around_view around.entry) (map file_view files.items)) }
 {
-    if !rewrite {
-        return rewrite_forms(alloc, around.folders, files, around.root, &[]);
+    if rewrite {
+        let rewritten = rewrite_definitions(alloc, around, whole, files.as_slice())?;
+        return rewrite_last(alloc, around, rewritten);
     }
-    let forms = [Form::Noback, Form::Base];
-    let rewritten = rewrite_forms(alloc, around.folders, files, around.root, &forms)?;
-    rewrite_last(alloc, around, rewritten)
+    Ok(Rewritten {
+        files,
+        edits: Vec::new(alloc),
+        made: Vec::new(alloc),
+    })
 }
 
 /// Whether an edit is of the line at a place.

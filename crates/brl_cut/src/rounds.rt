@@ -3,14 +3,14 @@ ghost use Rattle.std.specs.Prelude.{◌≡◌, Err, IfErr, IfOk, map, string_byt
 ghost use Rattle.brl_failure.specs.Failure.{IfFault};
 ghost use Rattle.brl_lines.specs.Lines.{location_of};
 ghost use Rattle.brl_lines.specs.Views.{line_view, load_fault_view, location_view};
-ghost use Rattle.brl_table.specs.Survey.{faulty_line_view};
+ghost use Rattle.brl_table.specs.Survey.{faulty_line_view, survey_of};
 ghost use Rattle.brl_cut.specs.Files.{file_view};
 ghost use Rattle.brl_cut.specs.Rounds.{IsSurveyed, IsUnsettled, SettlesTo};
 ghost use Rattle.brl_cut.specs.Settling.{lines_among};
 
 use crate::files::{BecomesComment, Edit, load_files, with_comments};
 use brl_failure::Failure;
-use brl_lines::{GatheredFile, Line, LoadFault, Location};
+use brl_lines::{GatheredFile, Line, LoadFault, Loaded, Location};
 use brl_table::{FaultyLine, survey};
 use std::alloc::{AllocError, Global};
 
@@ -29,9 +29,23 @@ pub(crate) struct Settled {
     pub places: Vec<Location>,
 }
 
+/// Surveys the lines of a table.
+pub(crate) fn survey_loaded(alloc: Global, loaded: &Loaded) -> Result<Surveyed, AllocError>
+    ensures faulty { IfOk result (λ found. map faulty_line_view found.faulty.items ≡ (survey_of loaded.now.lines).faulty) }
+    ensures places { IfOk result (λ found. map location_view found.places.items ≡ map location_of loaded.now.lines) }
+{
+    let lines = loaded.lines(alloc)?;
+    let found = survey(alloc, lines.as_slice())?;
+    let places = places_of_lines(alloc, lines.as_slice())?;
+    Ok(Surveyed {
+        faulty: found.faulty,
+        places,
+    })
+}
+
 /// Surveys the table whose root has a path, of these files and no others, which are looked for in
 /// these folders too.
-fn survey_files(
+pub(crate) fn survey_files(
     alloc: Global,
     folders: &[String],
     files: &[GatheredFile],
@@ -41,13 +55,7 @@ fn survey_files(
     ensures fault { IfErr result (IfFault (λ fault. lines_among (map string_bytes folders.now) (map file_view files.now) root.now ≡ Err (load_fault_view fault))) }
 {
     let loaded = load_files(alloc, folders, files, root)?;
-    let lines = loaded.lines(alloc)?;
-    let found = survey(alloc, lines.as_slice())?;
-    let places = places_of_lines(alloc, lines.as_slice())?;
-    Ok(Surveyed {
-        faulty: found.faulty,
-        places,
-    })
+    Ok(survey_loaded(alloc, &loaded)?)
 }
 
 /// The place of each line.
@@ -80,21 +88,23 @@ impl BecomesComment for FaultyLine {
 }
 
 /// Makes lines comments until a survey of the table whose root has a path finds none faulty: again
-/// and again all those that it finds. A table that can't be loaded from these files, which are
-/// looked for in these folders too, is a fault.
+/// and again all those that it finds, first those that were found already. A table that can't be
+/// loaded from these files, which are looked for in these folders too, is a fault.
 pub(crate) fn settle(
     alloc: Global,
     folders: &[String],
     files: Vec<GatheredFile>,
     root: &str,
+    first: Surveyed,
 ) -> Result<Settled, Failure<LoadFault>>
+    requires { IsSurveyed (map string_bytes folders.now) root.now (map file_view files.items) first }
     ensures settled { IfOk result (SettlesTo (map string_bytes folders.now) root.now (map file_view files.items)) }
     ensures fault { IfErr result (IfFault (IsUnsettled (map string_bytes folders.now) root.now (map file_view files.items))) }
 {
     let mut files = files;
     let mut found = Vec::new(alloc);
+    let mut surveyed = first;
     for _ in 0..u64::MAX {
-        let mut surveyed = survey_files(alloc, folders, files.as_slice(), root)?;
         if surveyed.faulty.is_empty() {
             return Ok(Settled {
                 found,
@@ -103,6 +113,7 @@ pub(crate) fn settle(
         }
         files = with_comments(alloc, files.as_slice(), surveyed.faulty.as_slice())?;
         found.append(&mut surveyed.faulty)?;
+        surveyed = survey_files(alloc, folders, files.as_slice(), root)?;
     }
     Err(Failure::Memory)
 }

@@ -1,50 +1,25 @@
 -- The lines of a table that was cut that can act on texts of an alphabet, and their report. The
 -- project's own choice.
-use Rattle.std.specs.Prelude.{ℕ, ◌≡◌, ◌⊎◌, ◌==◌, Bool, not, if◌then◌else◌, List, [], ◌++◌, codes, count_by, decimal, filter, flat_map, length, map, nat_lt, take, Ok, Err, bytes_eq}
+use Rattle.std.specs.Prelude.{ℕ, ◌≡◌, ◌==◌, Bool, not, if◌then◌else◌, List, [], ◌++◌, codes, count_by, decimal, filter, flat_map, length, map, nat_lt, take, bytes_eq}
 use Rattle.std.specs.List.{enumerate_from, list_any}
 use Rattle.brl_acting.specs.WholeTable.{ActingView, acting_of_table}
-use Rattle.brl_answers.specs.Answers.{EndsAs, with_alphabet_line}
-use Rattle.brl_answers.specs.Status.{of_cut_fault}
-use Rattle.brl_answers.specs.declared.run_fault.RunFault.{RunFault}
-use Rattle.brl_answers.specs.declared.run_fault.RunFault.TheVariants.{NotDefined}
+use Rattle.brl_answers.specs.Answers.{with_alphabet_line}
 use Rattle.brl_clashes.specs.Kinds.{kept}
-use Rattle.brl_cut.specs.Cuts.{without_includes}
-use Rattle.brl_cut.specs.Settling.{lines_among}
-use Rattle.brl_cut.specs.declared.cutting.CutFault.{CutFault}
-use Rattle.brl_cut.specs.declared.cutting.CutFault.TheVariants.{Load}
 use Rattle.brl_cut.specs.declared.cutting.CutTable.{CutTable}
 use Rattle.brl_lines.specs.GatherFaults.{gathered_view}
 use Rattle.brl_lines.specs.Lines.{LocationView}
-use Rattle.brl_lines.specs.Tokens.{LineView}
-use Rattle.brl_lines.specs.Views.{load_fault_view}
 use Rattle.brl_table.specs.Survey.{faulty_line_view}
-use Rattle.brl_without.specs.Alphabet.{AlphabetView, HasAll, IsLacking, left_out_by}
+use Rattle.brl_without.specs.Alphabet.{AlphabetView, HasAll, left_out_by}
 
 -- ---- Which lines can act
 
--- the lines of the whole table, as they were before it was cut; or this is why it has none
-abbrev pub AreWhole : List (List ℕ) → List ℕ → CutTable → List LineView → Type 0
-AreWhole folders path of lines = lines_among folders (without_includes (gathered_view of.gathered)) path ≡ Ok lines
-
-abbrev pub IsNoWhole : List (List ℕ) → List ℕ → CutTable → CutFault → Type 0
-IsNoWhole folders path of (Load why) = lines_among folders (without_includes (gathered_view of.gathered)) path ≡ Err (load_fault_view why)
-IsNoWhole folders path of other = ⊥
-
 -- the lines of the whole table that can act on texts of these characters
-abbrev pub AreActingOn : List (List ℕ) → List ℕ → CutTable → List ℕ → List ActingView → Type 0
-AreActingOn folders path of characters acting =
-    (whole : List LineView) × AreWhole folders path of whole
-    × (acting ≡ acting_of_table whole (gathered_view of.gathered) (map faulty_line_view of.cut.left_out.items) characters)
+abbrev pub acting_on : CutTable → List ℕ → List ActingView
+acting_on of characters = acting_of_table of.whole.lines (gathered_view of.gathered) (map faulty_line_view of.cut.left_out.items) characters
 
 -- the lines that can act on texts of an alphabet, of a table whose cut has all its characters
-abbrev pub AreActing : List (List ℕ) → List ℕ → AlphabetView → CutTable → List ActingView → Type 0
-AreActing folders path alphabet of acting =
-    HasAll of.table alphabet × AreActingOn folders path of (kept of.table (left_out_by of.table alphabet)) acting
-
--- why there are no such lines: the cut lacks characters of the alphabet; or, which never comes, its
--- files can't be loaded again
-abbrev pub IsNoActing : List (List ℕ) → List ℕ → AlphabetView → CutTable → RunFault → Type 0
-IsNoActing folders path alphabet of fault = EndsAs NotDefined (IsLacking of.table alphabet) fault ⊎ EndsAs of_cut_fault (IsNoWhole folders path of) fault
+abbrev pub AreActing : AlphabetView → CutTable → List ActingView → Type 0
+AreActing alphabet of acting = HasAll of.table alphabet × (acting ≡ acting_on of (kept of.table (left_out_by of.table alphabet)))
 
 -- the places of those that a cut leaves out
 abbrev pub left_out_places : List ActingView → List LocationView

@@ -20,12 +20,13 @@ use Rattle.brl_answers.specs.declared.new_files.NewFile.{NewFile}
 use Rattle.brl_answers.specs.declared.new_files.NewFiles.{NewFiles}
 use Rattle.brl_answers.specs.declared.new_files.NewFiles.TheVariants.{AllNew}
 use Rattle.brl_answers.specs.declared.run_fault.RunFault.{RunFault}
+use Rattle.brl_answers.specs.declared.run_fault.RunFault.TheVariants.{NotDefined}
 use Rattle.brl_answers.specs.declared.status.Status.{Status}
 use Rattle.brl_answers.specs.declared.status.Status.TheVariants.{Done, Refuted}
-use Rattle.brl_tool.specs.Acting.{AreActing, IsNoActing, left_out_places, with_acting}
+use Rattle.brl_tool.specs.Acting.{AreActing, left_out_places, with_acting}
 use Rattle.brl_tool.specs.Alphabets.{ByAlphabet}
 use Rattle.brl_tool.specs.Suspects.{has_unknown_opcode}
-use Rattle.brl_without.specs.Alphabet.{AlphabetView}
+use Rattle.brl_without.specs.Alphabet.{AlphabetView, IsLacking}
 
 -- a file that is to be written, with its path and its bytes
 abbrev pub new_file_view : NewFile → List ℕ × List ℕ
@@ -85,10 +86,10 @@ AnswersOver rewrite path dir alphabet of acting outcome =
     Then (AreMarked path dir of acting) (EndsAs of_cut_fault (IsUnwritten (marked_files (left_out_places acting) of) path dir))
     (λ texts. UnlessMemory (IsActingAnswer rewrite path dir alphabet of.cut acting texts)) outcome
 
--- the lines of a cut that can act are found, and answered; or this is why there are none
-abbrev pub JudgesCut : Bool → List (List ℕ) → List ℕ → List ℕ → AlphabetView → CutTable → Result Answer RunFault → Type 0
-JudgesCut rewrite folders path dir alphabet of outcome =
-    Then (AreActing folders path alphabet of) (IsNoActing folders path alphabet of) (AnswersOver rewrite path dir alphabet of) outcome
+-- the lines of a cut that can act are found, and answered; or the cut lacks characters
+abbrev pub JudgesCut : Bool → List ℕ → List ℕ → AlphabetView → CutTable → Result Answer RunFault → Type 0
+JudgesCut rewrite path dir alphabet of outcome =
+    Then (AreActing alphabet of) (EndsAs NotDefined (IsLacking of.table alphabet)) (AnswersOver rewrite path dir alphabet of) outcome
 
 -- ---- The command
 
@@ -105,7 +106,7 @@ CutsAlone rewrite gives path dir outcome = IfCut rewrite gives path dir (λ of. 
 -- and its lines were judged on texts of the characters that a word spells
 abbrev pub CutsOver : Bor (List ℕ) → Bool → FileAnswers → List ℕ → List ℕ → Result Answer RunFault → Type 0
 CutsOver word rewrite gives path dir outcome =
-    ByAlphabet (options.Only word) (λ alphabet. IfCut rewrite gives path dir (JudgesCut rewrite gives.folders path dir alphabet)) outcome
+    ByAlphabet (options.Only word) (λ alphabet. IfCut rewrite gives path dir (JudgesCut rewrite path dir alphabet)) outcome
 
 -- the one, or where characters are given the other
 abbrev pub Cuts : Option (Bor (List ℕ)) → Bool → FileAnswers → List ℕ → List ℕ → Result Answer RunFault → Type 0

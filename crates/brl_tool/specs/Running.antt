@@ -215,7 +215,7 @@ WritesTable before after path dir =
 abbrev pub HoldsOfActing : FileAnswers → List ℕ → List ℕ → Bool → Bor (List ℕ) → (List ActingView → Type 0) → Type 0
 HoldsOfActing gives path dir rewrite word holds =
     (alphabet : AlphabetView) × (spelled_by (alphabets.Only word) ≡ Some alphabet)
-    × ((of : CutTable) × IsCut rewrite gives path dir of × ((acting : List ActingView) × AreActing gives.folders path alphabet of acting × holds acting))
+    × ((of : CutTable) × IsCut rewrite gives path dir of × ((acting : List ActingView) × AreActing alphabet of acting × holds acting))
 
 -- where characters are given, no line can act, or some line can
 abbrev pub NoneActs : Option (Bor (List ℕ)) → FileAnswers → List ℕ → List ℕ → Bool → Type 0

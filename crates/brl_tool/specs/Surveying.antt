@@ -18,15 +18,15 @@ use Rattle.brl_answers.specs.Answers.{EndsAs, HasTextAndStatus, UnlessMemory}
 use Rattle.brl_answers.specs.Status.{of_cut_fault, status_of}
 use Rattle.brl_answers.specs.declared.answer.Answer.{Answer}
 use Rattle.brl_answers.specs.declared.run_fault.RunFault.{RunFault}
-use Rattle.brl_answers.specs.declared.run_fault.RunFault.TheVariants.{Load}
+use Rattle.brl_answers.specs.declared.run_fault.RunFault.TheVariants.{Load, NotDefined}
 use Rattle.brl_answers.specs.declared.status.Status.{Status}
 use Rattle.brl_answers.specs.declared.status.Status.TheVariants.{Done, Faulty, Refuted}
-use Rattle.brl_tool.specs.Acting.{AreActing, IsNoActing, with_acting}
+use Rattle.brl_tool.specs.Acting.{AreActing, with_acting}
 use Rattle.brl_tool.specs.Alphabets.{ByAlphabet}
 use Rattle.brl_tool.specs.Cutting.{IsReportOfCut}
 use Rattle.brl_tool.specs.Suspects.{has_unknown_opcode, is_suspect}
 use Rattle.brl_tool.specs.declared.survey.Report.{Report}
-use Rattle.brl_without.specs.Alphabet.{AlphabetView, alphabet_view}
+use Rattle.brl_without.specs.Alphabet.{AlphabetView, IsLacking, alphabet_view}
 use Rattle.brl_without.specs.declared.alphabet.Alphabet.{Alphabet}
 
 -- the lines of include lines that were skipped; a report that is brief has none
@@ -63,21 +63,22 @@ IsTextOver alphabet acting cut path text =
     (report : List ℕ) × IsReportOfCut true cut report × (text ≡ with_acting alphabet acting decided_cut path report)
 
 -- the text is that of a table that was cut; and this says whether it is suspect
-abbrev pub IsReportOfTable : List (List ℕ) → AlphabetView → CutTable → List ℕ → List ℕ → Bool → Type 0
-IsReportOfTable folders alphabet of path text suspect =
-    (acting : List ActingView) × AreActing folders path alphabet of acting
+abbrev pub IsReportOfTable : AlphabetView → CutTable → List ℕ → List ℕ → Bool → Type 0
+IsReportOfTable alphabet of path text suspect =
+    (acting : List ActingView) × AreActing alphabet of acting
     × IsTextOver alphabet acting of.cut path text × (suspect ≡ is_suspect_over of.cut acting)
 
 -- the text is that of the cut of the table at a path, with lines rewritten
 abbrev pub IsReportOver : AlphabetView → FileAnswers → List ℕ → List ℕ → Bool → Type 0
 IsReportOver alphabet gives path text suspect =
-    (of : CutTable) × IsCut true gives path [] of × IsReportOfTable gives.folders alphabet of path text suspect
+    (of : CutTable) × IsCut true gives path [] of × IsReportOfTable alphabet of path text suspect
 
--- there is no such report: the table can't be cut, or has no lines that can act, and this is why
+-- there is no such report: the table can't be cut, and this is why, or its cut lacks characters of
+-- the alphabet
 abbrev pub IsUnreported : AlphabetView → FileAnswers → List ℕ → RunFault → Type 0
 IsUnreported alphabet gives path fault =
     EndsAs of_cut_fault (IsCutFault true gives path []) fault
-    ⊎ ((of : CutTable) × IsCut true gives path [] of × IsNoActing gives.folders path alphabet of fault)
+    ⊎ ((of : CutTable) × IsCut true gives path [] of × EndsAs NotDefined (IsLacking of.table alphabet) fault)
 
 -- ---- Several tables
 

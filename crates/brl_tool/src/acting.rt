@@ -2,9 +2,8 @@
 ghost use Rattle.std.specs.Prelude.{◌≡◌, ◌++◌, ◌≤◌, IfErr, IfOk, OnOk, length, map, string_bytes};
 ghost use Rattle.brl_acting.specs.WholeTable.{acting_view};
 ghost use Rattle.brl_lines.specs.Views.{location_view};
-ghost use Rattle.brl_tool.specs.Acting.{AreActing, AreActingOn, IsNoActing, IsNoWhole, acting_line as acting_line_of, acting_text as text_by, count_of as count_of_by, has_opcode as has_opcode_by, count_text, idle_line as idle_line_of, is_first as is_first_by, last_line, left_out_places as left_out_by, line_word as line_word_of, opcode_text, place_text, text_at, with_acting as with_acting_by};
+ghost use Rattle.brl_tool.specs.Acting.{AreActing, acting_line as acting_line_of, acting_text as text_by, count_of as count_of_by, has_opcode as has_opcode_by, count_text, idle_line as idle_line_of, is_first as is_first_by, last_line, left_out_places as left_out_by, line_word as line_word_of, opcode_text, place_text, text_at, with_acting as with_acting_by};
 ghost use Rattle.brl_answers.specs.Answers.{EndsAs};
-ghost use Rattle.brl_answers.specs.Status.{of_cut_fault};
 ghost use Rattle.brl_answers.specs.declared.run_fault.RunFault.TheVariants.{NotDefined};
 ghost use Rattle.brl_clashes.specs.Kinds.{kept};
 ghost use Rattle.brl_without.specs.Alphabet.{HasAll, IsLacking, alphabet_view, left_out_by as characters_left_out};
@@ -12,8 +11,7 @@ ghost use Rattle.brl_without.specs.Alphabet.{HasAll, IsLacking, alphabet_view, l
 use brl_acting::{ActingLine, acting_of_table};
 use brl_answers::{RunFault, with_alphabet_line};
 use brl_clashes::kept_characters;
-use brl_cut::{CutFault, CutTable, load_whole};
-use brl_failure::raise;
+use brl_cut::CutTable;
 use brl_lines::Location;
 use brl_rules::Table;
 use brl_without::Alphabet;
@@ -26,21 +24,21 @@ pub struct Judged<'a> {
     pub acting: &'a [ActingLine],
 }
 
-/// Which lines of the table at a path can act on texts of an alphabet, where it was cut, and its
-/// files were looked for in these folders too. `NotDefined` where the cut lacks characters of the
-/// alphabet.
+/// Which lines of a table that was cut can act on texts of an alphabet. `NotDefined` where the cut
+/// lacks characters of the alphabet.
 pub fn acting_lines(
     alloc: Global,
-    folders: &[String],
     of: &CutTable,
-    path: &str,
     alphabet: &Alphabet,
 ) -> Result<Vec<ActingLine>, RunFault>
-    ensures acting { IfOk result (λ acting. AreActing (map string_bytes folders.now) path.now (alphabet_view alphabet.now) of.now (map acting_view acting.items)) }
-    ensures fault { IfErr result (IsNoActing (map string_bytes folders.now) path.now (alphabet_view alphabet.now) of.now) }
+    ensures acting { IfOk result (λ acting. AreActing (alphabet_view alphabet.now) of.now (map acting_view acting.items)) }
+    ensures fault { IfErr result (EndsAs NotDefined (IsLacking of.now.table (alphabet_view alphabet.now))) }
 {
     let characters = kept_of(alloc, &of.table, alphabet)?;
-    acting_on(alloc, folders, of, path, characters.as_slice())
+    let characters = characters.as_slice();
+    let left_out = of.cut.left_out.as_slice();
+    let acting = acting_of_table(alloc, &of.whole, &of.gathered, left_out, characters)?;
+    Ok(acting)
 }
 
 /// The characters of a table that are in an alphabet.
@@ -51,25 +49,6 @@ fn kept_of(alloc: Global, table: &Table, alphabet: &Alphabet) -> Result<Vec<char
 {
     let left_out = alphabet.left_out(alloc, table)?;
     Ok(kept_characters(alloc, table, &left_out)?)
-}
-
-/// Which lines of the whole table can act on texts of these characters.
-fn acting_on(
-    alloc: Global,
-    folders: &[String],
-    of: &CutTable,
-    path: &str,
-    characters: &[char],
-) -> Result<Vec<ActingLine>, RunFault>
-    ensures acting { IfOk result (λ acting. AreActingOn (map string_bytes folders.now) path.now of.now characters.now (map acting_view acting.items)) }
-    ensures fault { IfErr result (EndsAs of_cut_fault (IsNoWhole (map string_bytes folders.now) path.now of.now)) }
-{
-    let whole = raise(
-        load_whole(alloc, folders, &of.gathered, path),
-        CutFault::Load,
-    )?;
-    let left_out = of.cut.left_out.as_slice();
-    Ok(acting_of_table(alloc, &whole, &of.gathered, left_out, characters)?)
 }
 
 /// For each opcode of these lines how many there are, and where the first one is.

@@ -71,21 +71,19 @@ fn cut_over<F: Files>(
 {
     let alphabet = alphabet_of(alloc, AlphabetOption::Only(word))?;
     let of = cut_table(alloc, files, asked.table, asked.dir, asked.rewrite)?;
-    judge_cut(alloc, files.folders(), &of, asked, &alphabet)
+    judge_cut(alloc, &of, asked, &alphabet)
 }
 
-/// The answer with a cut, once its lines are judged on texts of an alphabet, where its files were
-/// looked for in these folders too.
+/// The answer with a cut, once its lines are judged on texts of an alphabet.
 fn judge_cut(
     alloc: Global,
-    folders: &[String],
     of: &CutTable,
     asked: CutRequest<'_>,
     alphabet: &Alphabet,
 ) -> Result<Answer, RunFault>
-    ensures { JudgesCut asked.entry.rewrite (map string_bytes folders.now) asked.entry.table.now asked.entry.dir.now (alphabet_view alphabet.now) of.now result }
+    ensures { JudgesCut asked.entry.rewrite asked.entry.table.now asked.entry.dir.now (alphabet_view alphabet.now) of.now result }
 {
-    let acting = acting_lines(alloc, folders, of, asked.table, alphabet)?;
+    let acting = acting_lines(alloc, of, alphabet)?;
     let judged = Judged {
         alphabet,
         acting: acting.as_slice(),

@@ -6,7 +6,6 @@ ghost use Rattle.brl_cut.specs.Skipping.{IsUnloaded};
 ghost use Rattle.brl_table.specs.Survey.{survey_of};
 ghost use Rattle.brl_report.specs.Survey.{IsSurveyText};
 ghost use Rattle.brl_acting.specs.WholeTable.{acting_view};
-ghost use Rattle.brl_tool.specs.Acting.{IsNoActing};
 ghost use Rattle.brl_tool.specs.Surveying.{IsIfAny, IsRefusedAs, IsReport, IsReportAt, IsReportOf, IsReportOfTable, IsReportOver, IsTextOver, IsUnreported, Surveys, SurveysByFiles, alphabet_if_any, is_suspect_over, part_text, skipped_part, status_after_report};
 ghost use Rattle.brl_without.specs.Alphabet.{alphabet_view};
 ghost use Rattle.brl_tool.specs.Suspects.{is_suspect as is_suspect_by};
@@ -205,21 +204,20 @@ fn report_over<S: Source>(
     ensures same { S.gives source.new ≡ S.gives source.old }
 {
     let of = cut_table(alloc, source, path, "", true)?;
-    report_of_table(alloc, source.folders(), &of, path, alphabet)
+    report_of_table(alloc, &of, path, alphabet)
 }
 
-/// The report of a table that was cut, where its files were looked for in these folders too.
+/// The report of a table that was cut.
 fn report_of_table(
     alloc: Global,
-    folders: &[String],
     of: &CutTable,
     path: &str,
     alphabet: &Alphabet,
 ) -> Result<Report, RunFault>
-    ensures report { IfOk result (λ report. IsReportOfTable (map string_bytes folders.now) (alphabet_view alphabet.now) of.now path.now (string_bytes report.text) report.suspect) }
-    ensures fault { IfErr result (IsNoActing (map string_bytes folders.now) path.now (alphabet_view alphabet.now) of.now) }
+    ensures report { IfOk result (λ report. IsReportOfTable (alphabet_view alphabet.now) of.now path.now (string_bytes report.text) report.suspect) }
+    ensures fault { IfErr result (EndsAs NotDefined (IsLacking of.now.table (alphabet_view alphabet.now))) }
 {
-    let acting = acting_lines(alloc, folders, of, path, alphabet)?;
+    let acting = acting_lines(alloc, of, alphabet)?;
     let judged = Judged {
         alphabet,
         acting: acting.as_slice(),

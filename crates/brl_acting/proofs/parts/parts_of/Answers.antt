@@ -3,7 +3,8 @@ use Rattle.std.specs.List.{list_any}
 use Rattle.std.specs.Borrow.{Bor}
 use Rattle.std.specs.Str.{bytes_eq}
 use Rattle.brl_lines.specs.Views.{line_view}
-use Rattle.brl_acting.specs.Words.{after_prefixes, classes_of_prefixes, prefix_words, words_of}
+use Rattle.brl_acting.specs.Forms.{form_of}
+use Rattle.brl_acting.specs.Words.{after_prefixes, classes_of_prefixes, prefix_words, word_at, words_of}
 use Rattle.brl_acting.proofs.Mapped.{list_any-map}
 use Rattle.brl_acting.proofs.parts.parts_of.Goals as goal
 
@@ -18,10 +19,12 @@ returns c =
     let nofor = c.is_among.ensures ∙ sym (list_any-map (bytes_eq (codes "nofor")) now c.prefix_words-prefixes.result.now) ∙ ap (list_any (bytes_eq (codes "nofor"))) prefixes in
     let classes = c.in_ok-classes_in.ensures ∙ ap classes_of_prefixes prefixes in
     let rest = ap (map now) c.in_ok-from_slice.ensures.items ∙ after in
+    let form = c.form_of.ensures ∙ ap form_of (c.word_at.ensures ∙ ap (λ (ws : List (List ℕ)). word_at ws 0) after) in
     λ j. record {
       kept = c.args.line.now.kept;
       continued = c.args.line.now.continued;
       nofor = nofor j;
       classes = classes j;
       words = rest j;
+      form = form j;
     }

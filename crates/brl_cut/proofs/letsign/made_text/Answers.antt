@@ -2,7 +2,7 @@ use Rattle.std.proofs.Common.{◌∙◌, ◌++◌, ◌<◌, [], ℕ, ap, map, sl
 use Rattle.std.specs.Option.{option_map_or}
 use Rattle.brl_cut.specs.LetsignViews.{alone_view, known_view}
 use Rattle.brl_cut.specs.Letsigns.{made_line_if}
-use Rattle.brl_cut.proofs.StepLemmas.{entries-more}
+use Rattle.brl_cut.proofs.RewriteLemmas.{entries-more}
 use Rattle.brl_cut.proofs.letsign.made_text.Goals as goal
 
 pub loop-index-preserved : goal.loop-index-preserved

@@ -2,8 +2,8 @@
 use brl_acting::{ActingLine, Letters, acting_of_table};
 use brl_cells::{Cell, Cells, DotsFault, read_dots, to_ascii, to_unicode, write_dots};
 use brl_cut::{
-    Cut, CutFault, CutTable, WithoutDictionaries, cut_table, load_whole, load_without_dictionaries,
-    mark_lines, written_root,
+    Cut, CutFault, CutTable, WithoutDictionaries, cut_table, load_without_dictionaries, mark_lines,
+    written_root,
 };
 use brl_failure::Failure;
 use brl_forward::{Clash, ConfirmFault, ForwardFault, Traced, confirm, trace, translate};
@@ -249,9 +249,14 @@ fn has_a_cut(alloc: Global) -> Result<bool, Fail> {
 
 /// Whether two lines of a table can act on texts of `a`, which its cut defines, and are marked.
 fn can_act(alloc: Global, of: &CutTable) -> Result<bool, Fail> {
-    let whole = load_whole(alloc, &[], &of.gathered, "t.ctb")?;
     let left_out = of.cut.left_out.as_slice();
-    let acting: Vec<ActingLine> = acting_of_table(alloc, &whole, &of.gathered, left_out, &['a'])?;
+    let acting: Vec<ActingLine> = acting_of_table(
+        alloc,
+        &of.whole,
+        &of.gathered,
+        left_out,
+        &['a'],
+    )?;
     let mut places = Vec::new(alloc);
     for line in acting {
         places.push(line.place)?;

@@ -1,13 +1,14 @@
-use Rattle.std.proofs.Common.{◌∙◌, List, ℕ, map, string_bytes, subst}
-use Rattle.brl_acting.specs.WholeTable.{acting_view}
-use Rattle.brl_tool.proofs.ActingLemmas.{ok_weaker}
-use Rattle.brl_tool.specs.Acting.{AreActingOn}
+use Rattle.std.proofs.Common.{◌∙◌, map}
+use Rattle.brl_acting.specs.WholeTable.{acting_of_table}
+use Rattle.brl_lines.specs.GatherFaults.{gathered_view}
+use Rattle.brl_table.specs.Survey.{faulty_line_view}
 use Rattle.brl_tool.proofs.acting.acting_lines.Goals as goal
 
 pub returns-clause-acting : goal.returns-clause-acting
 returns-clause-acting c =
-    ok_weaker c.acting_on.result c.acting_on.ensures.acting (λ acting on. (
+    let of = c.args.of.now in
+    let characters = c.as_slice.ensures.value ∙ c.in_ok-characters.ensures.characters in (
       c.in_ok-characters.ensures.all,
-      subst (λ (cs : List ℕ). AreActingOn (map string_bytes c.args.folders.now) c.args.path.now c.args.of.now cs (map acting_view acting.items))
-          (c.as_slice.ensures.value ∙ c.in_ok-characters.ensures.characters) on,
-    ))
+      c.in_ok-acting.ensures
+          ∙ (λ j. acting_of_table of.whole.lines (gathered_view of.gathered) (map faulty_line_view (c.as_slice-left_out.ensures.value j)) (characters j)),
+    )
