@@ -1,5 +1,5 @@
 -- Notes on words that are no opcodes where they are. The project's own choice.
-use Rattle.std.specs.Prelude.{ℕ, Bool, if◌then◌else◌, List, [], ◌∷◌, ◌++◌, codes, length, nat_le, nat_lt, unwrap_or, bytes_eq, chars}
+use Rattle.std.specs.Prelude.{ℕ, Bool, if◌then◌else◌, List, [], ◌∷◌, ◌++◌, codes, length, nat_le, nat_lt, Option, None, Some, unwrap_or, bytes_eq, chars}
 use Rattle.std.specs.List.{find, list_any}
 use Rattle.strsim.specs.Edits.{osa_table}
 use Rattle.brl_table.specs.Words.{opcode_words}
@@ -33,9 +33,16 @@ question_of (byte ∷ bytes) = codes "did you mean " ++ (byte ∷ bytes) ++ code
 abbrev pub is_opcode : List ℕ → Bool
 is_opcode word = list_any (λ opcode. bytes_eq opcode word) opcode_words
 
+-- how a cut rewrites the lines of an opcode, if it does
+abbrev pub rewriting_note : List ℕ → Option (List ℕ)
+rewriting_note word =
+    if bytes_eq word (codes "base") then Some (codes "brl cut --rewrite reads base uppercase, as uplow")
+    else if bytes_eq word (codes "contraction") then Some (codes "brl cut --rewrite reads contraction, as word")
+    else if bytes_eq word (codes "letsign") then Some (codes "brl cut --rewrite reads the last letsign, as a word line for each letter")
+    else None
+
 -- the note on a word that is no opcode where it is
 abbrev pub opcode_note : List ℕ → List ℕ
 opcode_note word =
     if is_opcode word then word ++ codes " is read, but not after noback or nofor"
-    else if bytes_eq word (codes "base") then codes "brl cut --rewrite reads base uppercase, as uplow"
-    else question_of (nearest_opcode word)
+    else unwrap_or (rewriting_note word) (question_of (nearest_opcode word))

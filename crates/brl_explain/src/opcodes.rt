@@ -1,10 +1,11 @@
 //! Notes on words that are no opcodes where they are.
-ghost use Rattle.std.specs.Prelude.{◌≡◌, IfOk, map, string_bytes, bytes_eq};
+ghost use Rattle.std.specs.Prelude.{◌≡◌, IfOk, map, option_map, string_bytes, bytes_eq};
 ghost use Rattle.std.specs.List.{list_any};
 ghost use Rattle.brl_explain.specs.Opcodes.{
   is_opcode as is_one_of_opcodes,
   nearest_opcode as nearest,
   opcode_note as note_on_opcode,
+  rewriting_note as note_on_rewriting,
   word_within,
 };
 ghost use Rattle.brl_table.specs.Words.{opcode_words};
@@ -24,8 +25,8 @@ pub fn opcode_note(alloc: Global, word: &str) -> Result<String, AllocError>
         note.push_str(" is read, but not after noback or nofor")?;
         return Ok(note);
     }
-    if word == "base" {
-        note.push_str("brl cut --rewrite reads base uppercase, as uplow")?;
+    if let Some(rewriting) = rewriting_note(word) {
+        note.push_str(rewriting)?;
         return Ok(note);
     }
     let near = nearest_opcode(alloc, word)?;
@@ -35,6 +36,20 @@ pub fn opcode_note(alloc: Global, word: &str) -> Result<String, AllocError>
         note.push('?')?;
     }
     Ok(note)
+}
+
+/// How a cut rewrites the lines of an opcode, if it does.
+fn rewriting_note(word: &str) -> Option<&'static str>
+    ensures { option_map (λ note. note.now) result ≡ note_on_rewriting word.now }
+{
+    match word {
+        "base" => Some("brl cut --rewrite reads base uppercase, as uplow"),
+        "contraction" => Some("brl cut --rewrite reads contraction, as word"),
+        "letsign" => Some(
+            "brl cut --rewrite reads the last letsign, as a word line for each letter",
+        ),
+        _ => None,
+    }
 }
 
 /// Whether a word is an opcode.

@@ -1,10 +1,11 @@
 -- When no character can be left out of the texts of a clash.
-use Rattle.std.proofs.Common.{◌≡◌, ℕ, ◌≤◌, inl, inr, IsTrue, List, Option, length, sym, subst, arith}
+use Rattle.std.proofs.Common.{◌≡◌, ℕ, ◌≤◌, IfOk, inl, inr, IsTrue, List, Option, length, sym, subst, subst₂, arith}
 use Rattle.std.specs.Prelude.{Result, Ok, Err, IfErr}
 use Rattle.std.specs.List.{remove, remove_range}
 use Rattle.brl_failure.specs.Failure.{IfFault}
 use Rattle.brl_failure.specs.declared.failure.Failure.{Failure}
 use Rattle.brl_failure.specs.declared.failure.Failure.TheVariants as failures
+use Rattle.brl_forward.specs.ClashView.{ClashView}
 use Rattle.brl_forward.specs.Faults.{IsFaultOf, IsFaultOfTwo}
 use Rattle.brl_forward.specs.declared.fault.ConfirmFault.{ConfirmFault}
 use Rattle.brl_forward.specs.declared.fault.ConfirmFault.TheVariants as confirm
@@ -14,7 +15,7 @@ use Rattle.brl_forward.specs.declared.fault.Side.TheVariants.{Left, Right}
 use Rattle.brl_forward.proofs.UnknownChars.{first_unknown-of_text}
 use Rattle.brl_rules.specs.TableView.{TableView}
 use Rattle.brl_rules.specs.Text.{is_text}
-use Rattle.brl_search.specs.Small.{ClashAt, IsSmall}
+use Rattle.brl_search.specs.Small.{ClashAt, IsMinimal, IsSmall}
 use Rattle.brl_search.specs.Smaller.{IsNone, Keeps}
 use Rattle.brl_closure.specs.declared.search.texts.Texts.{Texts}
 use Rattle.brl_search.proofs.Parts.{part-is, part-part, part-self, remove-past}
@@ -64,8 +65,8 @@ module _ (t : TableView) (rules : Option (ℕ × ℕ)) where
 
   -- ---- No character can be left out
 
-  pub small-from_none : (texts : Texts) → ((i j : ℕ) → i ≤ length texts.left.items → j ≤ length texts.right.items → IsNone t rules texts i j) → IsSmall t rules texts.left.items texts.right.items
-  small-from_none texts none =
+  pub minimal-from_none : (texts : Texts) → ((i j : ℕ) → i ≤ length texts.left.items → j ≤ length texts.right.items → IsNone t rules texts i j) → IsMinimal t rules texts.left.items texts.right.items
+  minimal-from_none texts none =
       let left = texts.left.items in
       let right = texts.right.items in
       record {
@@ -77,3 +78,9 @@ module _ (t : TableView) (rules : Option (ℕ × ℕ)) where
             (subst (λ (text : List ℕ). ClashAt t rules text (remove right j)) (sym (remove-past left (length left) (omega arith))) clash);
         of_both = λ i j within other clash. none i j (omega arith) (omega arith) (inl within) clash;
       }
+
+  -- a clash of small texts is small
+  pub small-of : {E : Type 0} (left right : List ℕ) (result : Result ClashView E) → IfOk result (λ clash. clash.left ≡ left) → IfOk result (λ clash. clash.right ≡ right) → IsSmall t rules left right
+      → IfOk result (λ clash. IsSmall t rules clash.left clash.right)
+  small-of left right (Ok clash) one other small = subst₂ (IsSmall t rules) (sym one) (sym other) small
+  small-of left right (Err fault) one other small = tt

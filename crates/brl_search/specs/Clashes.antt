@@ -23,8 +23,8 @@ abbrev pub rules_of_clashes : List RuleClash → List (ℕ × ℕ)
 rules_of_clashes list = map (λ (c : RuleClash). (c.lesser, c.greater)) list
 
 -- Two texts that use none of some characters clash, and their traces diverge at this pair of rules,
--- the lesser number first. No character can be left out of them so that they clash and diverge
--- there.
+-- the lesser number first. Where neither has more than 256 characters, none can be left out of
+-- them so that they clash and diverge there.
 pub record IsRuleClash (left_out : List ℕ) (t : TableView) (c : RuleClash) : Type 0 where
   pub in_order : c.lesser ≤ c.greater
   pub clash : IsClashWithout left_out t c.clash.left c.clash.right c.clash.cells

@@ -96,7 +96,7 @@ abbrev pub IsFoundPlainly : List ℕ → TableView → ℕ → Searched → Type
 IsFoundPlainly left_out t limit (Found found) = IsFoundWithout left_out t limit found
 IsFoundPlainly left_out t limit (NotExchangeable fault) = ⊥
 
--- no character can be left out of a clash that is found
+-- no character can be left out of a clash that is found, where its texts aren't long
 abbrev pub IsSmallFound : TableView → Searched → Type 0
 IsSmallFound t (Found found) = IfClashing (IsSmallClash t) found
 IsSmallFound t (NotExchangeable fault) = Unit {0}

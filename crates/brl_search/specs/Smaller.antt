@@ -1,5 +1,5 @@
 -- Internal. How the texts of a clash are made smaller.
-use Rattle.std.specs.Prelude.{◌≡◌, ◌<◌, ◌≤◌, ◌+◌, ◌*◌, ◌%◌, ◌^◌, ◌⊎◌, ◌&&◌, ◌==◌, ℕ, Bool, false, List, [], ◌∷◌, Option, if◌then◌else◌, length, nat_eq, slice_index}
+use Rattle.std.specs.Prelude.{◌≡◌, ◌<◌, ◌≤◌, ◌+◌, ◌*◌, ◌%◌, ◌^◌, ◌⊎◌, ◌&&◌, ◌||◌, ◌==◌, ℕ, Bool, false, List, [], ◌∷◌, Option, if◌then◌else◌, length, nat_eq, nat_lt, slice_index}
 use Rattle.std.specs.Bool.{beq}
 use Rattle.std.specs.Cmp.Lexicographic.{pointwise}
 use Rattle.std.specs.List.{fold, remove}
@@ -7,7 +7,7 @@ use Rattle.brl_forward.specs.declared.steps.Traced.{Traced}
 use Rattle.brl_pairs.specs.Divergence.{are_rules}
 use Rattle.brl_rules.specs.TableView.{TableView}
 use Rattle.brl_rules.specs.Translation.{translation}
-use Rattle.brl_search.specs.Small.{ClashAt, IsPartOf}
+use Rattle.brl_search.specs.Small.{ClashAt, IsPartOf, most_characters}
 use Rattle.brl_traces.specs.Traces.{begins_in_caps_run, taken}
 use Rattle.brl_closure.specs.declared.search.texts.Texts.{Texts}
 
@@ -20,6 +20,10 @@ pub record Keeps (t : TableView) (rules : Option (ℕ × ℕ)) (given texts : Te
 -- the number of characters of both texts
 abbrev pub size_of : Texts → ℕ
 size_of texts = length texts.left.items + length texts.right.items
+
+-- one of them has more than 256 characters
+abbrev pub is_long : Texts → Bool
+is_long texts = nat_lt most_characters (length texts.left.items) || nat_lt most_characters (length texts.right.items)
 
 -- The texts without the characters at two places don't clash so. A place after the last character
 -- means the whole text, and one of the two is to be in its text.

@@ -1,8 +1,8 @@
 //! Clashes made small: characters are left out of their texts while they clash.
 ghost use Rattle.std.specs.Prelude.{◌≡◌, ◌∷◌, ◌<◌, ◌≤◌, ℕ, [], IfNone, IfOk, IfSome, length};
 ghost use Rattle.brl_rules.specs.Translation.{IsClash};
-ghost use Rattle.brl_search.specs.Small.{ClashAt, IsPartOf, IsSmall};
-ghost use Rattle.brl_search.specs.Smaller.{AreKeysOf, IsNone, Keeps, size_of};
+ghost use Rattle.brl_search.specs.Small.{ClashAt, IsMinimal, IsPartOf, IsSmall};
+ghost use Rattle.brl_search.specs.Smaller.{AreKeysOf, IsNone, Keeps, is_long as is_long_by, size_of};
 ghost use Rattle.brl_traces.specs.Traces.{TracesDivergeAt};
 
 use crate::keys::{Keys, keys_of};
@@ -11,6 +11,10 @@ use brl_closure::Texts;
 use brl_forward::{Clash, clash_of};
 use brl_rules::Table;
 use std::alloc::{AllocError, Global};
+
+/// The most characters of a text of which single ones are left out: each time that one is costs a
+/// translation for each character.
+const MOST_CHARACTERS: usize = 256;
 
 /// Which clashes count: those of a table, and where a pair of rules is given, of texts whose traces
 /// diverge at it.
@@ -22,15 +26,15 @@ struct ClashFilter<'a> {
 }
 
 /// The clash of two texts that are known to clash, made small: characters are left out of both
-/// until no one character of either text, nor one of each, can be left out so that they clash.
-/// Where a pair of rules is given, at which the traces of the two texts diverge, only such clashes
-/// count.
+/// until no one character of either text, nor one of each, can be left out so that they clash; or
+/// until one of them still has more than 256 characters. Where a pair of rules is given, at which
+/// the traces of the two texts diverge, only such clashes count.
 ///
-/// Each time that a character of one text or of each is left out, and the last time, when none can
-/// be, this costs one translation for each character of the two texts, and a comparison of two
-/// numbers for each two places. Before that half of the characters, from some place on, are tried
-/// at once, then a quarter, and so on, which costs at most eight translations for each character of
-/// the left text.
+/// First half of the characters, from some place on, are tried at once, then a quarter, and so on
+/// to a 256th, which costs some 512 translations of the left text. Then, each time that a character
+/// of one text or of each is left out, and the last time, when none can be, this costs one
+/// translation for each character of the two texts, and a comparison of two numbers for each two
+/// places.
 pub fn small_clash_of(
     alloc: Global,
     table: &Table,
@@ -54,16 +58,24 @@ pub fn small_clash_of(
     clash_of(alloc, table, small.left, small.right)
 }
 
+/// Whether one of two texts has more than 256 characters.
+fn is_long(texts: &Texts) -> bool
+    ensures { result ≡ is_long_by texts.now }
+{
+    texts.left.len() > MOST_CHARACTERS || texts.right.len() > MOST_CHARACTERS
+}
+
 impl<'a> ClashFilter<'a> {
     /// Two texts that clash, without blocks of their first characters: first long blocks, then
-    /// shorter ones.
+    /// shorter ones, down to a 256th of the left text.
     fn without_blocks(&self, given: Texts) -> Result<Texts, AllocError>
         requires { ClashAt self.now.table.now self.now.rules given.left.items given.right.items }
         ensures { IfOk result (Keeps self.now.table.now self.now.rules given) }
     {
+        let least = given.left.len() / MOST_CHARACTERS;
         let mut size = given.left.len() / 2;
         let mut texts = given;
-        while size > 0 {
+        while size > least {
             texts = self.without_blocks_of(texts, size)?;
             size /= 2;
         }
@@ -91,12 +103,16 @@ impl<'a> ClashFilter<'a> {
         Ok(texts)
     }
 
-    /// Two texts that clash, without one character of one or of each as often as they clash then.
+    /// Two texts that clash, without one character of one or of each as often as they clash then;
+    /// long texts are left as they are.
     fn without_characters(&self, given: Texts) -> Result<Texts, AllocError>
         requires { ClashAt self.now.table.now self.now.rules given.left.items given.right.items }
         ensures texts { IfOk result (Keeps self.now.table.now self.now.rules given) }
         ensures small { IfOk result (λ texts. IsSmall self.now.table.now self.now.rules texts.left.items texts.right.items) }
     {
+        if is_long(&given) {
+            return Ok(given);
+        }
         let mut texts = given;
         while let Some(next) = self.without_one(&texts)? {
             texts = next;
@@ -109,7 +125,7 @@ impl<'a> ClashFilter<'a> {
         requires { ClashAt self.now.table.now self.now.rules texts.now.left.items texts.now.right.items }
         ensures keeps { IfOk result (λ found. IfSome found (Keeps self.now.table.now self.now.rules texts.now)) }
         ensures smaller { IfOk result (λ found. IfSome found (λ next. size_of next < size_of texts.now)) }
-        ensures none { IfOk result (λ found. IfNone found (IsSmall self.now.table.now self.now.rules texts.now.left.items texts.now.right.items)) }
+        ensures none { IfOk result (λ found. IfNone found (IsMinimal self.now.table.now self.now.rules texts.now.left.items texts.now.right.items)) }
     {
         let keys = Keys {
             left: keys_of(self.alloc, self.table, texts.left.as_slice())?,

@@ -556,6 +556,8 @@ brl,explain,B1,B2||unexpected argument 'B2'|2
 brl,explain,B4|B4 BadDots||0
 brl,explain,B4 BadDots 1596 at t.ctb:1|Dots: 9 is a virtual dot||0
 brl,explain,B1 OutsideProfile base at t.ctb:1|Opcode: brl cut --rewrite reads base uppercase, as uplow||0
+brl,explain,B1 OutsideProfile contraction at t.ctb:1|Opcode: brl cut --rewrite reads contraction, as word||0
+brl,explain,B1 OutsideProfile letsign at t.ctb:1|Opcode: brl cut --rewrite reads the last letsign, as a word line for each letter||0
 brl,explain,B4 BadDots 156# at t.ctb:1|Dots: # is no dot||0
 brl,explain,B4 BadDots 12-156F at t.ctb:1|Dots: F is a virtual dot||0
 brl,explain,B4 BadDots 01 at t.ctb:1|Dots: 0 is a cell by itself||0
