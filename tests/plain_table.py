@@ -83,7 +83,7 @@ def characters(operand: str) -> str:
         mark, digits = found[1], found[2] or found[3] or found[4]
         return chr(int(digits, 16)) if digits else ESCAPES[mark]
 
-    return re.sub(r"\\(?=(.))(?:x([0-9a-fA-F]{4})|y([0-9a-fA-F]{5})|z([0-9a-fA-F]{8})|.)", meant, operand)
+    return re.sub(r"\\(?=(.?))(?:x([0-9a-fA-F]{4})|y([0-9a-fA-F]{5})|z([0-9a-fA-F]{8})|.?)", meant, operand)
 
 
 def rows(path: str, root: str) -> Iterator[list[str]]:
