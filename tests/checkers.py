@@ -42,33 +42,35 @@ MOST_STATES, MOST_PAIRS, CHANGES = 120, 400, 8
 # As a program the second checker judges one of this many certificates.
 AS_PROGRAM = 200
 
-# Tables and certificates that random ones hardly have: a table that is just not too wide for version
-# 1, and one that is; a window that begins with an undefined character, has ended and knows nothing,
-# or knows more than a step reads on to; the most that fields may have, and more.
-LETTERS = [f"letter {chr(0x61 + it)} {'-'.join(f'{it + 1:05b}'.replace('1', '6').replace('0', '3'))}\n" for it in range(22)]
+# Tables, options and certificates that random ones hardly have. Of version 1: a table that is just not
+# too wide, and one that is; windows that begin with an undefined character, have ended and know
+# nothing, or know more than a step reads on to; a start that is final. The most that fields may have,
+# and more. Lines with two faults. Steps of one rule that differ in what they read alone. Dots of a
+# table in another order.
+LETTERS = [f"letter {chr(0x61 + it)} {f'{it + 1:05b}'.translate({48: '3-', 49: '6-'})}1\n" for it in range(22)]
 AB = "letter a 1\nletter b 12\n"
+BOTH_CASES = "uplow Aa 1\nuplow Bb 12\nalways ab 14\n"
 ODD_WINDOWS = "state 8 0 0 7a\nstate 8 0 1 7a\nstate 8 0 0 7a.61\nstate 8 0 1 -\nstate 8 0 0 61.7a.61\n"
-ROWS = [
-    ("".join(LETTERS[:21]) + "always ab 1\n", "BRLCERT 1\nstate 1 0 0 -\nend 1 0\n"),
-    ("".join(LETTERS) + "always ab 1\n", "BRLCERT 1\nstate 1 0 0 -\nend 1 0\n"),
-    (AB, f"BRLCERT 1\nstate 1 0 0 -\n{ODD_WINDOWS}end 6 0\n"),
-    (AB, f"BRLCERT 1\nstate 1 0 0 -\nstate 8 0 0 61\nstate 8 0 0 62\n{ODD_WINDOWS}end 8 0\n"),
-    (AB, f"BRLCERT 3\nstate 1 0 0\nstate 8 0 0\npair 0 1 {'-'.join(['1'] * 1024)}\nend 2 1\n"),
-    (AB, f"BRLCERT 3\nstate 1 0 0\nstate 8 0 0\npair 0 1 {'-'.join(['1'] * 1025)}\nend 2 1\n"),
-    (AB, "BRLCERT 3\nstate 1 0 0\npair 0 4294967295 -\nend 1 1\n"),
-    (AB, "BRLCERT 3\nstate 1 0 0\npair 0 4294967296 -\nend 1 1\n"),
-    (AB, "BRLCERT 3\nstate 1 0 0 b10ffff*\nstate 1 0 0\nstate 8 0 0\nend 3 0\n"),
-    (AB, "BRLCERT 3\nstate 1 0 0 b110000*\nend 1 0\n"),
-    (AB, "BRLCERT 3\nstate 1 0 0 bd7ff.e000*\nstate 1 0 0 bd800*\nend 2 0\n"),
-    (AB, "BRLCERT 3\nstate 1 0 0 bdfff*\nend 1 0\n"),
-    (AB, "BRLCERT 4294967295\n"),
-    (AB, "BRLCERT 4294967296\n"),
-    (AB, f"BRLCERT {'0' * 5000}3\n"),
-    (AB, f"BRLCERT {'1' * 5000}\n"),
-    (AB, ""),
-    (AB, "\n"),
-    (AB, "BRLCERT 3\n"),
-    (AB, "BRLCERT 3\nend 0 0\n"),
+ONE, TWO = "BRLCERT 3\nstate 1 0 0\n", "BRLCERT 3\nstate 1 0 0\nstate 8 0 0\n"
+BOTH_STATES = "BRLCERT 3\nstate 1 0 0\nstate 24 0 0\nstate 40 0 0\nstate 24 0 0 b62*\nstate 40 0 0 b62*\n"
+ROWS: list[tuple[str, list[str], str]] = [
+    ("".join(LETTERS[:21]) + "always ab 1\n", [], "BRLCERT 1\nstate 1 0 0 -\nend 1 0\n"),
+    ("".join(LETTERS) + "always ab 1\n", [], "BRLCERT 1\nstate 1 0 0 -\nend 1 0\n"),
+    (AB, [], f"BRLCERT 1\nstate 1 0 0 -\n{ODD_WINDOWS}end 6 0\n"),
+    (AB, [], f"BRLCERT 1\nstate 1 0 0 -\nstate 8 0 0 61\nstate 8 0 0 62\n{ODD_WINDOWS}end 8 0\n"),
+    (AB, ["--without", "ab"], "BRLCERT 1\nstate 1 0 0 -\npair 0 0 -\nend 1 1\n"),
+    (BOTH_CASES, [], f"{BOTH_STATES}end 5 0\n"),
+    (BOTH_CASES, ["--only", "ab"], f"{BOTH_STATES}end 5 0\n"),
+    ("letter a 21\nletter b 12\n", [], f"{TWO}pair 1 1 -\nend 2 1\n"),
+    ("letter a 1\nletter b 1-21\n", [], f"{TWO}pair 1 1 12\nend 2 1\n"),
+    *((AB, [], f"{TWO}pair 0 1 {'-'.join(['1'] * it)}\nend 2 1\n") for it in (1024, 1025)),
+    *((AB, [], f"{ONE}pair 0 {it} -\nend 1 1\n") for it in ("1", "01", "4294967295", "4294967296")),
+    *((AB, [], f"{ONE}pair 0 0 {it}\nend 1 1\n") for it in ("11", "121", "21", "00", "0", "0-12345678", "9", "1--2", "1-")),
+    *((AB, [], f"{ONE}state 1 0 0 {it}\nend 2 0\n") for it in ("b10ffff*", "b110000*", "bd7ff.e000*", "bd800*", "bdfff*", "be000*")),
+    *((AB, [], f"{ONE}state 1 0 0 {it}\nend 2 0\n") for it in ("n*", "b*", "b+8", "n+8*", "b61", "n8", "n+255", "n-256", "n+-8", "b61.*", "x+8")),
+    *((AB, [], f"{ONE}{it}\n") for it in ("state 01 0 0", "pair 0 0 -\nstate 01 0 0", "end 07 0", "pair 00 7 -", "end 1 0\n", "end 1 0\nx")),
+    *((AB, [], it) for it in ("BRLCERT 4294967295\n", "BRLCERT 4294967296\n", f"BRLCERT {'0' * 5000}3\n", f"BRLCERT {'1' * 5000}\n")),
+    *((AB, [], it) for it in ("", "\n", "BRLCERT 3", "BRLCERT 3\n", "BRLCERT 3\nend 0 0\n", "BRLCERT 0\n", "BRLCERT 3\nBRLCERT 3\n")),
 ]
 
 
@@ -354,8 +356,8 @@ def main(words: list[str]) -> int:
     asked = random_tables.asked(__doc__, words)
     with tempfile.TemporaryDirectory() as room:
         comparison, chance = Comparison(asked.program, Path(room)), random.Random(asked.seed)
-        for table, text in ROWS:
-            comparison.judge(table, [], text)
+        for row in ROWS:
+            comparison.judge(*row)
         for table, without in random_tables.tables(random.Random(asked.seed), asked.count):
             comparison.compare(table, without, chance)
     answers, failed = comparison.answers, comparison.failed

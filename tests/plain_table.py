@@ -86,6 +86,11 @@ def characters(operand: str) -> str:
     return re.sub(r"\\(?=(.?))(?:x([0-9a-fA-F]{4})|y([0-9a-fA-F]{5})|z([0-9a-fA-F]{8})|.?)", meant, operand)
 
 
+def cells_of(dots: str) -> list[str]:
+    """The cells that an operand spells: the dots of a cell may have any order."""
+    return ["".join(sorted(it)) for it in dots.split("-")]
+
+
 def rows(path: str, root: str) -> Iterator[list[str]]:
     """The tokens of the lines of a table that do something, includes replaced."""
     with open(path, encoding="utf-8-sig", newline="") as file:
@@ -124,7 +129,7 @@ class Table:
             elif opcode in CLASSES:
                 self.define(characters(operands[0]), opcode, operands[1], CLASSES[opcode])
             elif opcode in SIGNS:
-                self.signs[SIGNS[opcode]] = operands[0].split("-")
+                self.signs[SIGNS[opcode]] = cells_of(operands[0])
             elif opcode not in ("numericmodechars", "numericnocontchars"):
                 raise Fault(f"the opcode {opcode} isn't read")
         for opcode, *operands in lines:
@@ -138,14 +143,14 @@ class Table:
         """A line that defines a character: the first gives its cells, or the first `litdigit`."""
         info, is_literary = self.chars.setdefault(char, Character()), opcode == "litdigit"
         if not info.cells or (is_literary and not info.is_literary):
-            info.opcode, info.cells = opcode, dots.split("-")
+            info.opcode, info.cells = opcode, cells_of(dots)
         info.classes |= classes
         info.is_literary |= is_literary
 
     def rule(self, line: int, place: str, operand: str, dots: str) -> Rule:
         chars = "".join(self.fold(it) for it in characters(operand))
         own = itertools.chain(*(self.chars[it].cells for it in chars))
-        return Rule(place, chars, tuple(own if dots == "=" else dots.split("-")), line)
+        return Rule(place, chars, tuple(own if dots == "=" else cells_of(dots)), line)
 
     def fold(self, char: str) -> str:
         return self.chars[char].fold or char
