@@ -1,5 +1,5 @@
 #!/usr/bin/env python3
-"""Compares `brl check` with tools/second_checker.py, which is written from the pages on certificates.
+"""Compares `brl check` with tools/second_checker.py, which follows the pages on certificates alone.
 
   tests/checkers.py PROGRAM [--seed SEED] [--count COUNT]
 
@@ -10,9 +10,9 @@ that are swapped, dropped or doubled, other bytes. Both checkers must print the 
 status. The second one is called as a function, and now and then as a program.
 
 The same seed makes the same tables and changes. Which answers came how often is printed, and each
-certificate that is judged otherwise. The exit status is 1 where there is one, or where of many
-tables no certificate got an answer of some kind. The last line says how many certificates were
-judged to the same answer, and how many weren't.
+certificate that is judged otherwise. The exit status is 1 where there is one, where of many tables
+no certificate got an answer of some kind, and where the second checker has more than 300 lines. The
+last line says how many certificates were judged the same, and how many faults there are.
 """
 
 import random
@@ -39,8 +39,8 @@ ANSWERS = ["accepted", "A1", "A2", "A3", "A4", "A5", *(f"K{it}" for it in range(
 # How many states and pairs a certificate has that is made here, and how often each is changed.
 MOST_STATES, MOST_PAIRS, CHANGES = 120, 400, 8
 
-# As a program the second checker judges one of this many certificates.
-AS_PROGRAM = 200
+# As a program the second checker judges one of this many certificates; how many lines it may have.
+AS_PROGRAM, MOST_LINES = 200, 300
 
 # Tables, options and certificates that random ones hardly have. Of version 1: a table that is just not
 # too wide, and one that is; windows that begin with an undefined character, have ended and know
@@ -328,9 +328,12 @@ class Comparison:
 
     def second(self, asked: list[str]) -> tuple[int, str]:
         """The status and the output of the second checker, as a function or as a program."""
-        if self.answers.total() % AS_PROGRAM:
+        if self.answers.total() % AS_PROGRAM == 0:
+            return random_tables.run(sys.executable, SECOND, *asked)
+        try:
             return second_checker.answer(asked)
-        return random_tables.run(sys.executable, SECOND, *asked)
+        except Exception as fault:  # which is a difference, too, and must not end the comparison
+            return -1, repr(fault)
 
     def certificates(self, table: str, without: str, words: list[str], chance: random.Random) -> list[Listed]:
         """The certificates of a table that are checked and changed."""
@@ -361,12 +364,13 @@ def main(words: list[str]) -> int:
         for table, without in random_tables.tables(random.Random(asked.seed), asked.count):
             comparison.compare(table, without, chance)
     answers, failed = comparison.answers, comparison.failed
-    lacking = [it for it in ANSWERS if not answers[it]] if asked.count >= random_tables.ENOUGH else []
-    print(f"seed {asked.seed}: {asked.count} tables, {answers.total()} certificates: " + ", ".join(f"{it} {answers[it]}" for it in ANSWERS))
-    if lacking:
-        print(f"no certificate got the answer {', '.join(lacking)}")
-    print(f"checkers: {answers.total() - failed} passed, {failed + len(lacking)} failed")
-    return 1 if failed or lacking else 0
+    wrong = [f"no certificate got the answer {it}" for it in ANSWERS if asked.count >= random_tables.ENOUGH and not answers[it]]
+    if len(SECOND.read_text().splitlines()) > MOST_LINES:
+        wrong.append(f"the second checker has more than {MOST_LINES} lines")
+    shown = ", ".join(f"{it} {answers[it]}" for it in ANSWERS)
+    print("\n".join([*wrong, f"seed {asked.seed}: {asked.count} tables, {answers.total()} certificates: {shown}"]))
+    print(f"checkers: {answers.total() - failed} passed, {failed + len(wrong)} failed")
+    return 1 if failed or wrong else 0
 
 
 if __name__ == "__main__":

@@ -3,7 +3,7 @@
 
   tools/second_checker.py [--without CHARS | --only CHARS] TABLE CERT
 
-It is written from docs/proof/CERTIFICATES.md and docs/proof/MACHINES.md, not from the program's code;
+It follows docs/proof/CERTIFICATES.md and docs/proof/MACHINES.md, and has nothing of the program;
 tests/checkers.py compares both. tests/plain_table.py reads the table, by docs/guide/TABLES.md, and
 finds no faults: so a table must be one that `brl survey` finds good.
 """
