@@ -263,7 +263,7 @@ fn can_act(alloc: Global, of: &CutTable) -> Result<bool, Fail> {
     }
     let marked = mark_lines(alloc, of, "t.ctb", "o", places.as_slice())?;
     let root = written_root(alloc, "o", "t.ctb")?;
-    let letters = Letters::of_lines(alloc, whole.lines(alloc)?.as_slice())?;
+    let letters = Letters::of_lines(alloc, of.whole.lines(alloc)?.as_slice())?;
     Ok(
         letters.has('a')
             && letters.takes_sign('a')
