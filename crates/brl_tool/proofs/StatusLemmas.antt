@@ -425,7 +425,7 @@ module _ (before after : World) (same_file : MayBeSame) where
   )
   means (question.Cut path dir rewrite None) answer cuts files prints =
       let (of, cut, (status, text, (made, are, same))) = then_ok cuts in
-      let table = table_written path.now dir.now made (map file_view of.cut.files.items) answer.files are same (of.table, cut.2) files in (
+      let table = table_written path.now dir.now made (map file_view of.cut.files.items) answer.files are same (of.table, cut.3) files in (
         (λ done. (table, tt)),
         (λ refuted. ((table, inl (of, cut, unknown_left (has_unknown_opcode (map faulty_line_view of.cut.left_out.items)) (sym status ∙ refuted))), table)),
       )

@@ -7,9 +7,11 @@ ghost use Rattle.brl_table.specs.Survey.{survey_of};
 ghost use Rattle.brl_report.specs.Survey.{IsSurveyText};
 ghost use Rattle.brl_acting.specs.WholeTable.{acting_view};
 ghost use Rattle.brl_tool.specs.Surveying.{IsIfAny, IsRefusedAs, IsReport, IsReportAt, IsReportOf, IsReportOfTable, IsReportOver, IsTextOver, IsUnreported, Surveys, SurveysByFiles, alphabet_if_any, is_suspect_over, part_text, skipped_part, status_after_report};
-ghost use Rattle.brl_without.specs.Alphabet.{alphabet_view};
+ghost use Rattle.brl_without.specs.Alphabet.{IsLacking, alphabet_view};
 ghost use Rattle.brl_tool.specs.Suspects.{is_suspect as is_suspect_by};
+ghost use Rattle.brl_answers.specs.Answers.{EndsAs};
 ghost use Rattle.brl_answers.specs.Status.{status_of};
+ghost use Rattle.brl_answers.specs.declared.run_fault.RunFault.TheVariants.{NotDefined};
 ghost use Rattle.brl_answers.specs.declared.status.Status.TheVariants as statuses;
 
 use crate::acting::{Judged, acting_lines, with_acting};
