@@ -6,7 +6,6 @@ ghost use Rattle.brl_lines.specs.Views.{location_view};
 ghost use Rattle.brl_cut.specs.Cuts.{AreWhole, IsCut, IsCutFault, IsCutOf, IsRead, IsReadAs, IsUncut, IsUnreadAs, IsUnwritten, all_names as all_names_of, finished, home_of as home_by, without_includes, written_root as written_root_of};
 ghost use Rattle.brl_cut.specs.Letsigns.{made_name};
 ghost use Rattle.brl_cut.specs.Marks.{mark, marked_file, marked_files};
-ghost use Rattle.brl_cut.specs.RewritingViews.{rewritten_view};
 ghost use Rattle.brl_table.specs.Survey.{faulty_line_view};
 ghost use Rattle.brl_cut.specs.Edits.{edited_files};
 ghost use Rattle.brl_cut.specs.Files.{edit_view, file_view};

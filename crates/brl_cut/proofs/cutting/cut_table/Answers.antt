@@ -1,4 +1,4 @@
-use Rattle.std.proofs.Common.{◌≡◌, ◌∙◌, IfOk, Result, Ok, ap, map, string_bytes, subst}
+use Rattle.std.proofs.Common.{◌∙◌, ap, map, string_bytes, subst}
 use Rattle.std.proofs.lemmas.Result.{err_from_is_err_and}
 use Rattle.brl_failure.specs.Raised.{raised_is}
 use Rattle.brl_lines.specs.Answer.{FileAnswers}
