@@ -1,5 +1,5 @@
 -- What the sections of a list of clashes mean for their table.
-use Rattle.std.proofs.Common.{◌≡◌, ◌∙◌, ◌<◌, ◌+◌, ◌++◌, ◌&&◌, ℕ, zero, suc, All, Bool, true, false, List, [], ◌∷◌, Some, ap, arith, drop, filter, get_or, inl, inr, length, not, refl, slice_get, subst, sym}
+use Rattle.std.proofs.Common.{◌≡◌, ◌∙◌, ◌<◌, ◌+◌, ◌-◌, ◌++◌, ◌&&◌, ℕ, zero, suc, All, Bool, true, false, List, [], ◌∷◌, Some, ap, arith, drop, filter, get_or, inl, inr, length, not, refl, slice_get, subst, sym}
 use Rattle.std.specs.Prelude.{◌==◌, ◌||◌, if◌then◌else◌, nat_eq}
 use Rattle.std.specs.List.{list_all}
 use Rattle.std.proofs.lemmas.Bool.{and_parts, eqb-true}
@@ -12,7 +12,7 @@ use Rattle.brl_rules.proofs.Facts.{or-true}
 use Rattle.brl_clashes.specs.Kinds.{kept, kinds_among, left_out_in, of_kinds, or_letter, section_kinds}
 use Rattle.brl_clashes.specs.Accepted.{AreLeftOf, IsLeftOf, IsLeftOfList}
 use Rattle.brl_clashes.specs.ListedPairs.{has_pair, is_pair}
-use Rattle.brl_clashes.specs.Sections.{AreClashesOf, AreSections, are_whole, clashes_beside, clashes_of, is_whole, lists_none, outcome_of}
+use Rattle.brl_clashes.specs.Sections.{AreClashesOf, AreListed, AreSections, are_whole, clashes_beside, clashes_of, is_whole, lists_none, outcome_of}
 use Rattle.brl_clashes.specs.declared.kind.Kind.{Kind}
 use Rattle.brl_clashes.specs.declared.section.Section.{Section}
 use Rattle.brl_clashes.specs.declared.verdict.ListOutcome.TheVariants.{Unambiguous, Clashing, Unfinished}
@@ -75,8 +75,9 @@ module _ (t : TableView) (left_out : List ℕ) (limit : ℕ) where
   rule_clashes (Complete list body) are = are.0
   rule_clashes (Partial list states pairs) are = are.0
 
-  of_table : (found : ClashList) → AreClashes left_out t limit found → AreClashesOf t (clashes_of found)
-  of_table found are = λ k d within. ((rule_clashes found are).each k d within).clash.clash
+  of_table : (found : ClashList) → AreListed left_out t limit found → AreClashesOf t (clashes_of found)
+  of_table found (inl are) = λ k d within. ((rule_clashes found are).each k d within).clash.clash
+  of_table found (inr none) = subst (AreClashesOf t) (sym none.2) (λ k d within. absurd (omega (arith, within)))
 
 -- ---- A table without clashes
 
@@ -96,12 +97,12 @@ filter-none : (characters : List ℕ) → filter (λ (c : ℕ). false) character
 filter-none [] = refl
 filter-none (c ∷ characters) = filter-none characters
 
-nothing_more : (t : TableView) (left_out : List ℕ) (n : ℕ) → length (section_kinds t left_out) ≡ suc n → left_out_in t left_out n ≡ left_out
+pub nothing_more : (t : TableView) (left_out : List ℕ) (n : ℕ) → length (section_kinds t left_out) ≡ suc n → left_out_in t left_out n ≡ left_out
 nothing_more t left_out n e =
     let past : drop (n + 1) (section_kinds t left_out) ≡ [] = drop_all (n + 1) (section_kinds t left_out) (omega (arith, e)) in
     ap (λ later. left_out ++ of_kinds t later (kept t left_out)) past ∙ ap (λ more. left_out ++ more) (filter-none (kept t left_out)) ∙ append-nil left_out
 
-has_kinds : (kinds : List Kind) → (n : ℕ) × (length (or_letter kinds) ≡ suc n)
+pub has_kinds : (kinds : List Kind) → (n : ℕ) × (length (or_letter kinds) ≡ suc n)
 has_kinds [] = (0, refl)
 has_kinds (kind ∷ kinds) = (length kinds, refl)
 
@@ -206,7 +207,8 @@ only_accepted t left_out limit accepted sections left are are_left is =
     let all_whole : are_whole sections ≡ true = sym (all_left_whole accepted sections left are_left) ∙ whole in
     let (x, there) = last_of left n (left_length accepted sections left are_left ∙ are.all all_whole ∙ many) in
     let (s, at, of) = left_at accepted sections left are_left n x there in
-    let found : AreClashes left_out t limit s.found = subst (λ (lo : List ℕ). AreClashes lo t limit s.found) (nothing_more t left_out n many) (are.each n s at).clashes in
+    let place : n ≡ length (section_kinds t left_out) - 1 = omega (arith, many) in
+    let found = are.last s (subst (λ (k : ℕ). slice_get sections k ≡ Some s) place at) in
     none_left left_out t limit accepted s.found x.found found of.1 (passed (λ (y : Section). is_whole y.found) left whole n x there) (passed (λ (y : Section). lists_none y.found) left none n x there)
 
 -- where none are accepted, no texts clash
@@ -236,6 +238,28 @@ fewer_left_out : (t : TableView) (some more left right cells : List ℕ) → IsC
 fewer_left_out t some more left right cells clash =
     record { clash = clash.clash; left_without = fewer some more left clash.left_without; right_without = fewer some more right clash.right_without }
 
+all_beside : (list : List RuleClash) → list ≡ clashes_beside [] list
+all_beside [] = refl
+all_beside (x ∷ list) = ap (λ (others : List RuleClash). x ∷ others) (all_beside list)
+
+whole_left : (found : ClashList) → IsLeftOfList [] found found
+whole_left (Complete list body) = (all_beside list.items, refl)
+whole_left (Partial list states pairs) = (all_beside list.items, refl, refl)
+
+-- where no two texts clash, no two clash that use none of more characters
+pub none_without : (t : TableView) (left_out more : List ℕ) (limit : ℕ) (found : ClashList) → AreClashes left_out t limit found → is_whole found ≡ true → lists_none found ≡ true → IsUnambiguousWithout (left_out ++ more) t
+none_without t left_out more limit found are whole none = λ left right left_is right_is left_none right_none same.
+    none_clash t left_out (none_left left_out t limit [] found found are (whole_left found) whole none) left right left_is right_is (fewer left_out more left left_none) (fewer left_out more right right_none) same
+
+-- a list of which a clash is left isn't one of nothing
+some_clashes : (t : TableView) (left_out : List ℕ) (limit : ℕ) (accepted : List (ℕ × ℕ)) (found : ClashList) (left : List RuleClash) → left ≡ clashes_beside accepted (clashes_of found) → (length left == 0) ≡ false
+    → AreListed left_out t limit found → AreRuleClashes left_out t (clashes_of found)
+some_clashes t left_out limit accepted found left is some (inl are) = rule_clashes t left_out limit found are
+some_clashes t left_out limit accepted found left is some (inr none) =
+    let nothing : left ≡ [] = is ∙ ap (clashes_beside accepted) none.2 in
+    let e : true ≡ false = ap (λ (xs : List RuleClash). length xs == 0) (sym nothing) ∙ some in
+    absurd cc
+
 -- the first clash that is left
 first_left : (left_out : List ℕ) (t : TableView) (accepted : List (ℕ × ℕ)) (list left : List RuleClash) → left ≡ clashes_beside accepted list → (length left == 0) ≡ false → AreRuleClashes left_out t list
     → (x : RuleClash) × IsRuleClash left_out t x × (has_pair accepted (x.lesser, x.greater) ≡ false)
@@ -254,7 +278,8 @@ other_clash t left_out limit accepted sections left are are_left is =
     let (place, x, there, lists) = failed (λ (y : Section). lists_none y.found) left some in
     let (s, at, of) = left_at accepted sections left are_left place x there in
     let section = are.each place s at in
-    let (clash, is_clash, other) = first_left (left_out_in t left_out place) t accepted (clashes_of s.found) (clashes_of x.found) (left_clashes accepted s.found x.found of.1) lists (rule_clashes t (left_out_in t left_out place) limit s.found section.clashes) in (
+    let (clash, is_clash, other) = first_left (left_out_in t left_out place) t accepted (clashes_of s.found) (clashes_of x.found) (left_clashes accepted s.found x.found of.1) lists
+    (some_clashes t (left_out_in t left_out place) limit accepted s.found (clashes_of x.found) (left_clashes accepted s.found x.found of.1) lists section.clashes) in (
       clash.lesser,
       clash.greater,
       record {
@@ -268,14 +293,6 @@ other_clash t left_out limit accepted sections left are are_left is =
     )
 
 -- ---- No accepted pairs
-
-all_beside : (list : List RuleClash) → list ≡ clashes_beside [] list
-all_beside [] = refl
-all_beside (x ∷ list) = ap (λ (others : List RuleClash). x ∷ others) (all_beside list)
-
-whole_left : (found : ClashList) → IsLeftOfList [] found found
-whole_left (Complete list body) = (all_beside list.items, refl)
-whole_left (Partial list states pairs) = (all_beside list.items, refl, refl)
 
 -- where no pairs are accepted, all of the sections is left
 all_are_left : (sections : List Section) → AreLeftOf [] sections sections

@@ -1,6 +1,6 @@
 -- The sections of a list of clashes: what is found for the texts of some kinds of characters, and
 -- of one kind more in each section. The project's own choice.
-use Rattle.std.specs.Prelude.{ℕ, ◌≡◌, ◌==◌, All, Bool, true, false, if◌then◌else◌, IsTrue, List, [], ◌++◌, Some, length, not, slice_get}
+use Rattle.std.specs.Prelude.{ℕ, ◌≡◌, ◌-◌, ◌==◌, ◌⊎◌, All, Bool, true, false, if◌then◌else◌, IsTrue, List, [], ◌++◌, Some, length, not, slice_get}
 use Rattle.std.specs.List.{filter, fold, list_all}
 use Rattle.brl_clashes.specs.Kinds.{left_out_in, section_kinds}
 use Rattle.brl_clashes.specs.ListedPairs.{has_pair}
@@ -13,6 +13,7 @@ use Rattle.brl_search.specs.Clashes.{AreClashes, rules_of_clashes}
 use Rattle.brl_search.specs.declared.table_clashes.ClashList.{ClashList}
 use Rattle.brl_search.specs.declared.table_clashes.ClashList.TheVariants.{Complete, Partial}
 use Rattle.brl_search.specs.declared.table_clashes.RuleClash.{RuleClash}
+use Rattle.brl_without.specs.Tables.{IsUnambiguousWithout}
 
 -- ---- What is listed
 
@@ -65,13 +66,21 @@ AreClashesOf t clashes = All (λ x. IsClash t x.clash.left x.clash.right x.clash
 
 -- ---- The sections of a table
 
--- the section with this number, from 0: its kind, and what is found with a limit for the texts that
--- use neither what is left out nor a character of a later section
+-- what is found with a limit for the texts that use none of some characters: their list; or, where
+-- no two of them clash, a whole list of nothing
+abbrev pub AreListed : List ℕ → TableView → ℕ → ClashList → Type 0
+AreListed left_out t limit found =
+    AreClashes left_out t limit found ⊎ (IsUnambiguousWithout left_out t × (is_whole found ≡ true) × (clashes_of found ≡ []))
+
+-- the section with this number, from 0: its kind, and what is found for the texts that use neither
+-- what is left out nor a character of a later section
 pub record IsSection (t : TableView) (left_out : List ℕ) (limit place : ℕ) (s : Section) : Type 0 where
   pub kind : slice_get (section_kinds t left_out) place ≡ Some s.kind
-  pub clashes : AreClashes (left_out_in t left_out place) t limit s.found
+  pub clashes : AreListed (left_out_in t left_out place) t limit s.found
 
--- these are the sections of a table; where all are whole, none is missing
+-- these are the sections of a table; where all are whole, none is missing, and the last one is the
+-- list of all texts
 pub record AreSections (t : TableView) (left_out : List ℕ) (limit : ℕ) (sections : List Section) : Type 0 where
   pub each : (place : ℕ) (s : Section) → slice_get sections place ≡ Some s → IsSection t left_out limit place s
   pub all : IsTrue (are_whole sections) → length sections ≡ length (section_kinds t left_out)
+  pub last : (s : Section) → slice_get sections (length (section_kinds t left_out) - 1) ≡ Some s → AreClashes left_out t limit s.found

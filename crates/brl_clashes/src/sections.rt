@@ -1,15 +1,15 @@
 //! The sections of a table's list of clashes.
-ghost use Rattle.std.specs.Prelude.{◌≡◌, ◌≤◌, IfOk, Some, slice_get};
-ghost use Rattle.brl_clashes.specs.Kinds.{kept, section_kinds as kinds_of_sections};
-ghost use Rattle.brl_clashes.specs.Sections.{AreSections};
-ghost use Rattle.brl_search.specs.Clashes.{AreClashes};
+ghost use Rattle.std.specs.Prelude.{◌≡◌, ◌<◌, ◌≤◌, ◌&&◌, [], IfOk, Some, length, slice_get, true};
+ghost use Rattle.brl_clashes.specs.Sections.{AreListed, AreSections, clashes_of as clashes_in, is_whole as has_all, lists_none as has_none};
+ghost use Rattle.brl_without.specs.Tables.{IsUnambiguousWithout};
 
 use crate::Kind;
 use crate::kind::{kept_characters, left_out_and, section_kinds};
-use crate::section::{Section, is_whole};
+use crate::section::{Section, is_whole, lists_none};
+use brl_pairs::{Body, Members, Seed};
 use brl_progress::Progress;
 use brl_rules::Table;
-use brl_search::clashes;
+use brl_search::{ClashList, clashes};
 use brl_without::LeftOut;
 use std::alloc::{AllocError, Global};
 
@@ -18,6 +18,8 @@ use std::alloc::{AllocError, Global};
 /// capitals, with marks, and for all. There is a section for each kind that the table has a
 /// character of. Each is the whole list of its texts; a list that isn't whole, since more states,
 /// pairs or pairs of rules than `limit` were found, is the last one.
+///
+/// All texts come first: where no two of them clash, no others are searched.
 pub fn list_sections<P: Progress>(
     alloc: Global,
     table: &Table,
@@ -30,33 +32,70 @@ pub fn list_sections<P: Progress>(
 {
     let kept = kept_characters(alloc, table, left_out)?;
     let kinds = section_kinds(alloc, table, kept.as_slice())?;
+    let kinds = kinds.as_slice();
+    let all = clashes(alloc, table, limit, left_out, progress)?;
+    let none = is_empty(&all);
+    let last = kinds.len() - 1;
     let mut sections = Vec::new(alloc);
-    for (place, kind) in kinds.iter().enumerate() {
+    for place in 0..last {
         let later = &kinds[place + 1..];
         let without = left_out_and(alloc, table, left_out, later, kept.as_slice())?;
-        let section = list_section(alloc, table, *kind, limit, &without, progress)?;
-        let whole = is_whole(&section.found);
-        sections.push(section)?;
+        let found = found_for(alloc, table, limit, &without, none, progress)?;
+        let whole = is_whole(&found);
+        let kind = kind_at(kinds, place);
+        sections.push(Section { kind, found })?;
         if !whole {
             return Ok(sections);
         }
     }
+    let kind = kind_at(kinds, last);
+    sections.push(Section { kind, found: all })?;
     Ok(sections)
 }
 
-/// The section of a kind: what is found for the texts that use none of these characters.
-fn list_section<P: Progress>(
+/// The kind at a place.
+fn kind_at(kinds: &[Kind], place: usize) -> Kind
+    requires { place < length kinds.now }
+    ensures { slice_get kinds.now place ≡ Some result }
+{
+    kinds[place]
+}
+
+/// Whether a list is whole and has no pair of rules.
+fn is_empty(found: &ClashList) -> bool
+    ensures { result ≡ (has_all found.now && has_none found.now) }
+{
+    is_whole(found) && lists_none(found)
+}
+
+/// What is found for the texts that use none of these characters: nothing is searched where it is
+/// known that no two of them clash.
+fn found_for<P: Progress>(
     alloc: Global,
     table: &Table,
-    kind: Kind,
     limit: u64,
     left_out: &LeftOut,
+    none: bool,
     progress: &mut P,
-) -> Result<Section, AllocError>
-    requires { limit ≤ 4294967295 }
-    ensures kind { IfOk result (λ s. s.kind ≡ kind) }
-    ensures found { IfOk result (λ s. AreClashes left_out.now table.now limit s.found) }
+) -> Result<ClashList, AllocError>
+    requires few { limit ≤ 4294967295 }
+    requires none { none ≡ true → IsUnambiguousWithout left_out.now table.now }
+    ensures { IfOk result (AreListed left_out.now table.now limit) }
 {
-    let found = clashes(alloc, table, limit, left_out, progress)?;
-    Ok(Section { kind, found })
+    if none {
+        return Ok(no_clashes(alloc));
+    }
+    clashes(alloc, table, limit, left_out, progress)
+}
+
+/// A whole list of nothing.
+fn no_clashes(alloc: Global) -> ClashList
+    ensures whole { has_all result ≡ true }
+    ensures none { clashes_in result ≡ [] }
+{
+    let seed = Seed::of(&[]);
+    ClashList::Complete {
+        list: Vec::new(alloc),
+        body: Body::new(Members::new(alloc, seed), Members::new(alloc, seed)),
+    }
 }
