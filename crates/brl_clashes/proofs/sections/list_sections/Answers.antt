@@ -1,4 +1,4 @@
-use Rattle.std.proofs.Common.{◌≡◌, ◌∙◌, ◌+◌, ◌-◌, ◌<◌, ◌≤◌, ◌++◌, ◌∷◌, ◌&&◌, [], ℕ, zero, suc, Bool, List, Some, true, false, ap, arith, drop, inl, length, length-drop, slice_get, subst, sym, take, take_all}
+use Rattle.std.proofs.Common.{◌≡◌, ◌∙◌, ◌+◌, ◌-◌, ◌≤◌, ◌++◌, ◌∷◌, ◌&&◌, [], ℕ, zero, suc, Bool, List, Some, true, false, ap, arith, drop, inl, length, length-drop, slice_get, subst, sym, take, take_all}
 use Rattle.std.proofs.lemmas.Bool.{and_parts}
 use Rattle.brl_clashes.specs.Kinds.{kept, kinds_among, left_out_in, of_kinds, or_letter, section_kinds}
 use Rattle.brl_clashes.specs.Sections.{AreListed, IsSection, are_whole, is_whole, lists_none}
