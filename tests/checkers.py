@@ -39,8 +39,9 @@ ANSWERS = ["accepted", "A1", "A2", "A3", "A4", "A5", *(f"K{it}" for it in range(
 # How many states and pairs a certificate has that is made here, and how often each is changed.
 MOST_STATES, MOST_PAIRS, CHANGES = 120, 400, 8
 
-# As a program the second checker judges one of this many certificates; how many lines it may have.
-AS_PROGRAM, MOST_LINES = 200, 300
+# As a program the second checker judges one of this many certificates; how many lines it may have. Of
+# this many tables some certificate gets each answer.
+AS_PROGRAM, MOST_LINES, MANY_TABLES = 200, 300, 300
 
 # Tables, options and certificates that random ones hardly have. Of version 1: a table that is just not
 # too wide, and one that is; windows that begin with an undefined character, have ended and know
@@ -364,7 +365,7 @@ def main(words: list[str]) -> int:
         for table, without in random_tables.tables(random.Random(asked.seed), asked.count):
             comparison.compare(table, without, chance)
     answers, failed = comparison.answers, comparison.failed
-    wrong = [f"no certificate got the answer {it}" for it in ANSWERS if asked.count >= random_tables.ENOUGH and not answers[it]]
+    wrong = [f"no certificate got the answer {it}" for it in ANSWERS if asked.count >= MANY_TABLES and not answers[it]]
     if len(SECOND.read_text().splitlines()) > MOST_LINES:
         wrong.append(f"the second checker has more than {MOST_LINES} lines")
     shown = ", ".join(f"{it} {answers[it]}" for it in ANSWERS)
