@@ -97,7 +97,7 @@ pub record Around : Type 0 where
   pub root : List ℕ
   pub home : List ℕ
 
--- the lines of files that are there
+-- the lines of these files; none where they can't be loaded
 abbrev pub lines_in : Around → Texts → List LineView
 lines_in around files = known_lines around.folders around.root files
 

@@ -4,10 +4,10 @@
 //! place, and gives the files with the paths where they are to be written. `text` puts text before
 //! lines, `files` has files in memory and edits of their lines, `rewriting` rewrites lines
 //! (`noback`, `base`, `contraction` and `letsign` have the forms, `signs` the cells of indicators,
-//! `putting` what is put before a line), `rounds` surveys files until no line is faulty, `includes`
-//! has include lines that are left out, `placing` the paths where files are written, and `cutting`
-//! has the whole, and marks lines of it. `load_without_dictionaries` loads a table without its
-//! hyphenation dictionaries.
+//! `putting` what is put before a line), `rounds` surveys files until no line is faulty, `starting`
+//! does both, `includes` has include lines that are left out, `placing` the paths where files are
+//! written, and `cutting` has the whole, and marks lines of it. `load_without_dictionaries` loads a
+//! table without its hyphenation dictionaries.
 //!
 //! Room 1, text and tables (docs/dev/ARCHITECTURE.md). The definitions begin in `specs/Cuts.antt`.
 #![tactic(auto)]
