@@ -251,7 +251,7 @@ pub none_without : (t : TableView) (left_out more : List ℕ) (limit : ℕ) (fou
 none_without t left_out more limit found are whole none = λ left right left_is right_is left_none right_none same.
     none_clash t left_out (none_left left_out t limit [] found found are (whole_left found) whole none) left right left_is right_is (fewer left_out more left left_none) (fewer left_out more right right_none) same
 
--- a list of which a clash is left isn't one of nothing
+-- where a clash is left of a list, the list has clashes of the table
 some_clashes : (t : TableView) (left_out : List ℕ) (limit : ℕ) (accepted : List (ℕ × ℕ)) (found : ClashList) (left : List RuleClash) → left ≡ clashes_beside accepted (clashes_of found) → (length left == 0) ≡ false
     → AreListed left_out t limit found → AreRuleClashes left_out t (clashes_of found)
 some_clashes t left_out limit accepted found left is some (inl are) = rule_clashes t left_out limit found are

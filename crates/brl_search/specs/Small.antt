@@ -1,4 +1,4 @@
--- Small clashes: no character can be left out of them, but where they are long. The project's own
+-- Small clashes: no character can be left out of them, unless they are long. The project's own
 -- choice.
 use Rattle.std.specs.Prelude.{◌≡◌, ◌<◌, ◌≤◌, ◌⊎◌, ℕ, IfSome, List, [], ◌∷◌, Option, None, length}
 use Rattle.std.specs.List.{remove}
@@ -19,11 +19,11 @@ pub record IsMinimal (t : TableView) (rules : Option (ℕ × ℕ)) (left right :
   pub of_right : (j : ℕ) → j < length right → ClashAt t rules left (remove right j) → ⊥
   pub of_both : (i j : ℕ) → i < length left → j < length right → ClashAt t rules (remove left i) (remove right j) → ⊥
 
--- the most characters of a text of which single ones are left out
+-- how many characters a text has at most that isn't long
 abbrev pub most_characters : ℕ
 most_characters = 256
 
--- so it is where neither text has more than 256 characters
+-- no character can be left out so, where neither text has more than 256
 abbrev pub IsSmall : TableView → Option (ℕ × ℕ) → List ℕ → List ℕ → Type 0
 IsSmall t rules left right = length left ≤ most_characters → length right ≤ most_characters → IsMinimal t rules left right
 

@@ -12,8 +12,8 @@ use brl_forward::{Clash, clash_of};
 use brl_rules::Table;
 use std::alloc::{AllocError, Global};
 
-/// The most characters of a text of which single ones are left out: each time that one is costs a
-/// translation for each character.
+/// How many characters a text has at most that isn't long. Leaving out one character of a text
+/// costs as many translations as it has characters, so single ones of long texts stay.
 const MOST_CHARACTERS: usize = 256;
 
 /// Which clashes count: those of a table, and where a pair of rules is given, of texts whose traces
@@ -26,9 +26,10 @@ struct ClashFilter<'a> {
 }
 
 /// The clash of two texts that are known to clash, made small: characters are left out of both
-/// until no one character of either text, nor one of each, can be left out so that they clash; or
-/// until one of them still has more than 256 characters. Where a pair of rules is given, at which
-/// the traces of the two texts diverge, only such clashes count.
+/// until no one character of either text, nor one of each, can be left out so that they clash.
+/// Where one of them has more than 256 characters once blocks were left out, both stay as they are
+/// then. Where a pair of rules is given, at which the traces of the two texts diverge, only such
+/// clashes count.
 ///
 /// First half of the characters, from some place on, are tried at once, then a quarter, and so on
 /// to a 256th, which costs some 512 translations of the left text. Then, each time that a character

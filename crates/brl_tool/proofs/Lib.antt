@@ -8,4 +8,3 @@ pub mod OfFiles
 pub mod RunLemmas
 pub mod SearchLemmas
 pub mod UnusedLemmas
-pub mod ActingLemmas

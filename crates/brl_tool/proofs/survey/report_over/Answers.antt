@@ -1,9 +1,8 @@
 use Rattle.std.proofs.Common.{[], inl, inr, true}
-use Rattle.std.proofs.lemmas.Result.{err_from_is_err_and}
+use Rattle.std.proofs.lemmas.Result.{IfErr-weaker, IfOk-weaker, err_from_is_err_and}
 use Rattle.brl_answers.proofs.StepLemmas.{ends_as}
 use Rattle.brl_answers.specs.Status.{of_cut_fault}
 use Rattle.brl_cut.specs.Cuts.{IsCutFault}
-use Rattle.brl_tool.proofs.ActingLemmas.{err_weaker, ok_weaker}
 use Rattle.brl_tool.proofs.survey.report_over.Goals as goal
 
 -- the table isn't cut
@@ -14,7 +13,7 @@ returns-in_err-of-clause-fault g c =
     rw p.1 (inl (ends_as of_cut_fault is _ p.0 p.2 c.in_err-of.ensures.fault))
 
 pub returns-clause-report : goal.returns-clause-report
-returns-clause-report g c = ok_weaker c.report_of_table.result c.report_of_table.ensures.report (λ report is. (c.in_ok-of.of, c.in_ok-of.ensures.cut, is))
+returns-clause-report g c = IfOk-weaker c.report_of_table.result _ _ (λ report is. (c.in_ok-of.of, c.in_ok-of.ensures.cut, is)) c.report_of_table.ensures.report
 
 pub returns-clause-fault : goal.returns-clause-fault
-returns-clause-fault g c = err_weaker c.report_of_table.result c.report_of_table.ensures.fault (λ fault is. inr (c.in_ok-of.of, c.in_ok-of.ensures.cut, is))
+returns-clause-fault g c = IfErr-weaker c.report_of_table.result _ _ (λ fault is. inr (c.in_ok-of.of, c.in_ok-of.ensures.cut, is)) c.report_of_table.ensures.fault
