@@ -31,7 +31,7 @@ _brl() {
     # The command, the option that waits for its value, and the operands before the cursor.
     for ((at = 1; at < COMP_CWORD; at++)); do
         case ${COMP_WORDS[at]} in
-            --accept | --form | --first | --limit | --only | --path | --without | --write) option=${COMP_WORDS[at]} ;;
+            --accept | --form | --first | --kind | --limit | --only | --path | --without | --write) option=${COMP_WORDS[at]} ;;
             =) ;;
             *)
                 if [[ -n $option ]]; then
@@ -54,7 +54,7 @@ _brl() {
         clash | trace) options='--escapes --lines --path --help' ;;
         rules | explain) options='--path --help' ;;
         search) options='--limit --without --only --accept --path --help' ;;
-        clashes) options='--first --limit --without --only --accept --prune --write --path --help' ;;
+        clashes) options='--first --kind --tsv --limit --without --only --accept --prune --write --path --help' ;;
         unused) options='--limit --without --only --path --help' ;;
         slips) options='--tsv --path --help' ;;
         check) options='--without --only --accept --path --help' ;;
@@ -66,6 +66,8 @@ _brl() {
     COMPREPLY=()
     if [[ $option == --form ]]; then
         _brl_reply < <(compgen -W 'ascii unicode' -- "$word")
+    elif [[ $option == --kind ]]; then
+        _brl_reply < <(compgen -W 'alike rules cells case several begins word asdigit number sets again unseen braille' -- "$word")
     elif [[ $option == --path ]]; then
         _brl_folders "$word"
     elif [[ $option == --accept || $option == --write ]]; then

@@ -7,7 +7,7 @@ function __brl_operands
     for word in (commandline -opc)[3..-1]
         if test $takes_value = yes
             set takes_value no
-        else if contains -- $word --accept --form --first --limit --only --path --without --write
+        else if contains -- $word --accept --form --first --kind --limit --only --path --without --write
             set takes_value yes
         else if not string match -q -- '-*' $word
             set count (math $count + 1)
@@ -53,13 +53,14 @@ complete -c brl -n '__brl_is translate' -l form -x -a 'ascii unicode' -d 'How ce
 complete -c brl -n '__brl_is translate' -l lacking -d 'Pass over lines with undefined characters, and list these'
 complete -c brl -n '__brl_is search clashes' -l limit -x -d 'How many states and pairs may be found'
 complete -c brl -n '__brl_is unused' -l limit -x -d 'How many states may be found'
-complete -c brl -n '__brl_is slips' -l tsv -d 'Write named columns with tabs between them'
+complete -c brl -n '__brl_is slips clashes' -l tsv -d 'Write named columns with tabs between them'
 complete -c brl -n '__brl_is clash trace' -l escapes -d 'Read texts as they are spelled in tables and reports'
 complete -c brl -n '__brl_is clash trace' -l lines -d 'Show the lines of the table by which each step is made'
 complete -c brl -n '__brl_is survey' -l brief -d 'Leave the list of faults out'
 complete -c brl -n '__brl_is survey cut' -l only -x -d 'Characters of the texts on which lines may act'
 complete -c brl -n '__brl_is cut' -l rewrite -d 'Also read four more forms of lines, as they are rewritten'
-complete -c brl -n '__brl_is clashes' -l first -x -d 'How many lines of each section are shown'
+complete -c brl -n '__brl_is clashes' -l first -x -d 'Show a line for each of the first pairs of a section'
+complete -c brl -n '__brl_is clashes' -l kind -x -a 'alike rules cells case several begins word asdigit number sets again unseen braille' -d 'Show the pairs of one kind alone'
 complete -c brl -n '__brl_is clashes' -l accept -r -F -d 'Leave the pairs of rules out that this file names'
 complete -c brl -n '__brl_is search check' -l accept -r -F -d 'Find no clash in what this file names'
 complete -c brl -n '__brl_is clashes' -l prune -d 'Take the stale lines out of the file of accepted pairs'

@@ -78,7 +78,7 @@ offers() {
     [ $# -ne 0 ] || : >"$work/want"
     "${shell}_offers" "$line" >"$work/got" || echo "the shell failed" >"$work/got"
     # a folder's slash and the option before an equals sign are a matter of each shell
-    sed -i 's|/$||; s|^--form=||; s|=$||; /^$/d' "$work/got"
+    sed -i 's|/$||; s|^--form=||; s|^--kind=||; s|=$||; /^$/d' "$work/got"
     if ! sort -u "$work/got" | diff "$work/want" - >"$work/diff"; then
         fail "completions of $shell: '$line': < must be offered, > is offered" "$work/diff"
     fi
@@ -114,20 +114,22 @@ for shell in bash zsh fish; do
     offers 'brl translate --form u' unicode
     offers 'brl translate --form=' ascii unicode
     offers 'brl translate --form=a' ascii
+    offers 'brl clashes --kind b' begins braille
+    offers 'brl clashes --kind=wo' word
     # operands that are no paths, and too many of them
     for words in \
         'translate table.ctb' 'clash table.ctb' 'clash table.ctb text' 'trace table.ctb' \
         'clash --escapes table.ctb text' 'clash --lines table.ctb text' 'rules table.ctb' \
             'unused table.ctb' 'slips table.ctb' 'unused --limit' 'explain' 'search table.ctb table.cert' \
         'search --limit' 'search --only' 'search --without' 'search --limit=5 table.ctb table.cert' \
-        'clashes table.ctb' 'clashes --accept other.txt table.ctb' 'clashes --first' 'check table.ctb table.cert' 'cut table.ctb tables'; do
+        'clashes table.ctb' 'clashes --accept other.txt table.ctb' 'clashes --first' 'clashes --kind word table.ctb' 'check table.ctb table.cert' 'cut table.ctb tables'; do
         offers "brl $words t"
     done
     # operands that are paths
     for words in \
         'translate --form ascii' 'trace --escapes' 'trace --escapes --lines' 'unused --limit 5' 'slips --tsv' \
             'search table.ctb' 'search --limit 5' \
-        'search --without ab table.ctb' 'search --only a..z table.ctb' 'unused --only ab' 'clashes --first 5' 'clashes --accept' 'clashes --write' \
+        'search --without ab table.ctb' 'search --only a..z table.ctb' 'unused --only ab' 'clashes --first 5' 'clashes --kind word' 'clashes --accept' 'clashes --write' \
         'clashes --accept other.txt' 'clashes --write other.txt' 'check table.ctb' \
         'check --without ab table.ctb' 'survey table.ctb other.txt' 'survey --brief'; do
         offers "brl $words t" table.ctb table.cert tables

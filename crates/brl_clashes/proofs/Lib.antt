@@ -1,4 +1,6 @@
 pub mod Verdicts
+mod KindsAddUp
 mod Lines
+mod Places
 mod Listed
 mod Shown

@@ -6,6 +6,8 @@ use Rattle.std.proofs.lemmas.List.Concat.{flat_map-append}
 use Rattle.brl_clashes.specs.ClashesText.{AreSectionTexts}
 use Rattle.brl_clashes.specs.SectionText.{IsSectionText}
 use Rattle.brl_clashes.specs.Sections.{listed_after}
+use Rattle.brl_clashes.specs.Sets.{FirstsView}
+use Rattle.brl_clashes.specs.declared.list_form.ListForm.{ListForm}
 use Rattle.brl_clashes.specs.declared.section.Section.{Section}
 use Rattle.brl_lines.specs.Tokens.{LineView}
 use Rattle.brl_rules.specs.TableView.{TableView}
@@ -22,14 +24,14 @@ one_more {X} f xs i x front text after within is so_far added =
 -- ---- Sections
 
 -- one more section, after those that are written
-pub one_more_section : (t : TableView) (lines : List LineView) (characters : List ℕ) (taken : Bool) (first : ℕ) (before : List (ℕ × ℕ)) (sections : List Section) (s : Section) (text part : List ℕ)
-    → AreSectionTexts t lines characters taken first before sections text → IsSectionText t lines characters taken first (fold listed_after before sections) s part
-    → AreSectionTexts t lines characters taken first before (sections ++ s ∷ []) (text ++ part)
-one_more_section t lines characters taken first before [] s text part are is = (part, [], is, refl, ap (λ (front : List ℕ). front ++ part) are ∙ sym (append-nil part))
-one_more_section t lines characters taken first before (other ∷ sections) s text part (front, rest, front_is, rest_are, joined) is = (
+pub one_more_section : (t : TableView) (lines : List LineView) (firsts : FirstsView) (form : ListForm) (taken : Bool) (before : List (ℕ × ℕ)) (sections : List Section) (s : Section) (text part : List ℕ)
+    → AreSectionTexts t lines firsts form taken before sections text → IsSectionText t lines firsts form taken (fold listed_after before sections) s part
+    → AreSectionTexts t lines firsts form taken before (sections ++ s ∷ []) (text ++ part)
+one_more_section t lines firsts form taken before [] s text part are is = (part, [], is, refl, ap (λ (front : List ℕ). front ++ part) are ∙ sym (append-nil part))
+one_more_section t lines firsts form taken before (other ∷ sections) s text part (front, rest, front_is, rest_are, joined) is = (
   front,
   rest ++ part,
   front_is,
-  one_more_section t lines characters taken first (listed_after before other) sections s rest part rest_are is,
+  one_more_section t lines firsts form taken (listed_after before other) sections s rest part rest_are is,
   ap (λ (all : List ℕ). all ++ part) joined ∙ append_assoc front rest part,
 )

@@ -1,5 +1,5 @@
 -- The clashes of a section that are shown, in order.
-use Rattle.std.proofs.Common.{◌≡◌, ◌∙◌, ◌+◌, ◌++◌, ℕ, All, Bool, List, ap, filter, not, subst, sym, Bor}
+use Rattle.std.proofs.Common.{◌≡◌, ◌+◌, ℕ, All, Bool, List, ap, not, subst, sym, Bor}
 use Rattle.std.specs.Cmp.{IsStrictWeakOrder, IsTotalOrder}
 use Rattle.std.specs.Fn.{Called, ComparesAs}
 use Rattle.std.specs.List.Sorted.{IsPermutation, IsSorted, IsSortedBy}
@@ -12,13 +12,12 @@ use Rattle.std.proofs.lemmas.List.Sorted.{All-permutation, answers_always, ranks
 use denote.Param.Members.{Mut}
 use Rattle.brl_clashes.specs.ListedPairs.{has_pair}
 use Rattle.brl_clashes.specs.Order.{differing, suspicion_cmp, unequal}
-use Rattle.brl_clashes.specs.SectionText.{shown_in}
-use Rattle.brl_clashes.specs.Sections.{AreClashesOf, listed_after, new_in}
-use Rattle.brl_clashes.specs.Sets.{is_represented}
-use Rattle.brl_clashes.specs.declared.section.Section.{Section}
+use Rattle.brl_clashes.specs.SectionText.{is_shown, shown_among}
+use Rattle.brl_clashes.specs.Sections.{AreClashesOf, clashes_beside}
+use Rattle.brl_clashes.specs.Sets.{FirstsView}
+use Rattle.brl_clashes.specs.declared.list_form.ListForm.{ListForm}
 use Rattle.brl_rules.specs.TableView.{TableView}
 use Rattle.brl_rules.specs.Translation.{IsClash}
-use Rattle.brl_search.specs.Clashes.{rules_of_clashes}
 use Rattle.brl_search.specs.declared.table_clashes.RuleClash.{RuleClash}
 
 -- ---- Their order
@@ -42,18 +41,15 @@ sorted_by {F} {g} {f} new sorted compares =
 
 -- ---- Which they are
 
-module _ (t : TableView) (characters : List ℕ) (before after : List (ℕ × ℕ)) (s : Section) (new own : List RuleClash) (new_is : new ≡ new_in before s) where
-  pub shown_is : after ≡ before ++ rules_of_clashes new → own ≡ filter (λ clash. not (is_represented t characters after clash)) new → own ≡ shown_in t characters before s
-  shown_is after_is own_is =
-      own_is ∙ ap (λ (ls : List (ℕ × ℕ)). filter (λ clash. not (is_represented t characters ls clash)) new) (after_is ∙ ap (λ (cs : List RuleClash). before ++ rules_of_clashes cs) new_is)
-      ∙ ap (λ (cs : List RuleClash). filter (λ clash. not (is_represented t characters (listed_after before s) clash)) cs) new_is
-
 -- the texts of clashes that are shown clash, as those of all do
-pub shown_clash : (t : TableView) (characters : List ℕ) (before after : List (ℕ × ℕ)) (all new own shown : List RuleClash)
-    → new ≡ filter (λ (clash : RuleClash). not (has_pair before (clash.lesser, clash.greater))) all → own ≡ filter (λ clash. not (is_represented t characters after clash)) new → IsPermutation own shown
-    → AreClashesOf t all → AreClashesOf t shown
-shown_clash t characters before after all new own shown new_is own_is moved are =
+pub shown_clash : (form : ListForm) (t : TableView) (firsts : FirstsView) (listed : List (ℕ × ℕ)) (new own shown : List RuleClash)
+    → own ≡ shown_among form t firsts listed new → IsPermutation own shown → AreClashesOf t new → AreClashesOf t shown
+shown_clash form t firsts listed new own shown own_is moved are =
     let P = λ (x : RuleClash). IsClash t x.clash.left x.clash.right x.clash.cells in
-    let news : All P new = subst (All P) (sym new_is) (All-filter (λ (clash : RuleClash). not (has_pair before (clash.lesser, clash.greater))) P all are) in
-    let owns : All P own = subst (All P) (sym own_is) (All-filter (λ (clash : RuleClash). not (is_represented t characters after clash)) P new news) in
+    let owns : All P own = subst (All P) (sym own_is) (All-filter (is_shown form t firsts listed) P new are) in
     All-permutation P own shown moved owns
+
+-- the texts of new clashes clash, as those of all do
+pub new_clash : (t : TableView) (before : List (ℕ × ℕ)) (all : List RuleClash) → AreClashesOf t all → AreClashesOf t (clashes_beside before all)
+new_clash t before all are =
+    All-filter (λ (clash : RuleClash). not (has_pair before (clash.lesser, clash.greater))) (λ (x : RuleClash). IsClash t x.clash.left x.clash.right x.clash.cells) all are

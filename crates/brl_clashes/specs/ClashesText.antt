@@ -1,16 +1,19 @@
 -- The text of a list of clashes: the sets of characters, its sections, and a verdict. The project's
 -- own choice.
-use Rattle.std.specs.Prelude.{ℕ, ◌≡◌, ◌-◌, ◌==◌, Bool, true, false, if◌then◌else◌, List, [], ◌∷◌, ◌++◌, Option, codes, flat_map, length, slice_get}
+use Rattle.std.specs.Prelude.{ℕ, ◌≡◌, ◌-◌, ◌==◌, Bool, true, false, if◌then◌else◌, List, [], ◌∷◌, ◌++◌, Option, codes, flat_map, length, nat_lt, slice_get}
 use Rattle.std.specs.Fmt.{decimal}
 use Rattle.std.specs.Option.{option_map_or}
 use Rattle.brl_answers.specs.Answers.{counts_line, spelled_one_by_one, with_alphabet_line}
 use Rattle.brl_cells.specs.Dots.{spelling}
 use Rattle.brl_without.specs.Alphabet.{AlphabetView, left_out_by}
+use Rattle.brl_clashes.specs.Columns.{column_names}
 use Rattle.brl_clashes.specs.Accepted.{accepted_count, accepted_lines, are_taken, outcome_beside}
 use Rattle.brl_clashes.specs.SectionText.{IsSectionText, others_note, pairs_words}
 use Rattle.brl_clashes.specs.Sections.{listed_after, listed_pairs, outcome_of}
-use Rattle.brl_clashes.specs.Sets.{openers, plain, set_among}
+use Rattle.brl_clashes.specs.Sets.{FirstsView, firsts_of, openers, plain, set_among}
 use Rattle.brl_clashes.specs.declared.accepted.Taken.{Taken}
+use Rattle.brl_clashes.specs.declared.list_form.ListForm.{ListForm}
+use Rattle.brl_clashes.specs.declared.list_form.ListForm.TheVariants.{Screen, Pairs, Columns}
 use Rattle.brl_clashes.specs.declared.section.Section.{Section}
 use Rattle.brl_clashes.specs.declared.verdict.ListOutcome.{ListOutcome}
 use Rattle.brl_clashes.specs.declared.verdict.ListOutcome.TheVariants.{Unambiguous, Clashing, Unfinished}
@@ -46,6 +49,21 @@ sets_heading count =
 -- the lines of all sets, after how many there are
 abbrev pub sets_text : TableView → List ℕ → List ℕ
 sets_text t characters = sets_heading (length (openers t characters)) ++ flat_map (set_line t characters) (openers t characters)
+
+-- the most sets that have lines where pairs are shown by their kinds
+abbrev pub most_sets : ℕ
+most_sets = 3
+
+-- the line of more sets
+abbrev pub hidden_sets : ℕ → List ℕ
+hidden_sets count = decimal count ++ codes " sets of characters have the same cells, classes and flags, in no rule; --first 0 lists them\n"
+
+-- the lines of sets in a form
+abbrev pub sets_in : ListForm → TableView → List ℕ → List ℕ
+sets_in Screen t characters =
+    if nat_lt most_sets (length (openers t characters)) then hidden_sets (length (openers t characters)) else sets_text t characters
+sets_in (Pairs first key) t characters = sets_text t characters
+sets_in (Columns key) t characters = []
 
 -- ---- The verdict
 
@@ -88,16 +106,29 @@ verdict_text accepted sections =
 -- ---- The whole text
 
 -- the texts of sections, one after another, after sections with these pairs of rules
-abbrev pub AreSectionTexts : TableView → List LineView → List ℕ → Bool → ℕ → List (ℕ × ℕ) → List Section → List ℕ → Type 0
-AreSectionTexts t lines characters taken first before [] text = text ≡ []
-AreSectionTexts t lines characters taken first before (s ∷ sections) text =
-    (front rest : List ℕ) × IsSectionText t lines characters taken first before s front
-    × AreSectionTexts t lines characters taken first (listed_after before s) sections rest × (text ≡ front ++ rest)
+abbrev pub AreSectionTexts : TableView → List LineView → FirstsView → ListForm → Bool → List (ℕ × ℕ) → List Section → List ℕ → Type 0
+AreSectionTexts t lines firsts form taken before [] text = text ≡ []
+AreSectionTexts t lines firsts form taken before (s ∷ sections) text =
+    (front rest : List ℕ) × IsSectionText t lines firsts form taken before s front
+    × AreSectionTexts t lines firsts form taken (listed_after before s) sections rest × (text ≡ front ++ rest)
 
--- The text of a list of clashes: the sets of characters, the sections, and the verdict, with the
--- line that says of which characters texts are made. Where a file accepts pairs, they are left out
--- of the sections, and it says how much the file excuses.
-abbrev pub IsClashesText : TableView → List LineView → AlphabetView → ℕ → Option Taken → List Section → List ℕ → Type 0
-IsClashesText t lines alphabet first accepted sections text = let plain = plain t (left_out_by t alphabet) in
-    (parts : List ℕ) × AreSectionTexts t lines plain (are_taken accepted) first [] sections parts
-    × (text ≡ sets_text t plain ++ parts ++ with_alphabet_line alphabet (verdict_text accepted sections))
+-- what comes before a list is nothing; before columns it is their names, and where pairs are shown
+-- by their kinds, the lines of likely slips, which are any text
+abbrev pub IsTop : ListForm → List ℕ → Type 0
+IsTop Screen top = Unit {0}
+IsTop (Pairs first key) top = top ≡ []
+IsTop (Columns key) top = top ≡ column_names
+
+-- the last lines of a list in a form: this verdict, and of which characters texts are made; columns
+-- have none
+abbrev pub last_lines : ListForm → AlphabetView → List ℕ → List ℕ
+last_lines (Columns key) alphabet verdict = []
+last_lines form alphabet verdict = with_alphabet_line alphabet verdict
+
+-- The text of a list of clashes: what comes before it, the sets of characters, the sections, and
+-- the verdict, with the line that says of which characters texts are made. Where a file accepts
+-- pairs, they are left out of the sections, and it says how much the file excuses.
+abbrev pub IsClashesText : TableView → List LineView → AlphabetView → ListForm → Option Taken → List Section → List ℕ → Type 0
+IsClashesText t lines alphabet form accepted sections text = let plain = plain t (left_out_by t alphabet) in
+    (top parts : List ℕ) × IsTop form top × AreSectionTexts t lines (firsts_of t plain) form (are_taken accepted) [] sections parts
+    × (text ≡ top ++ sets_in form t plain ++ parts ++ last_lines form alphabet (verdict_text accepted sections))

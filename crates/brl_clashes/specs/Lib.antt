@@ -6,3 +6,6 @@ pub mod Kinds
 pub mod Sets
 pub mod Order
 pub mod ListedPairs
+pub mod PairKinds
+pub mod Columns
+pub mod Screen

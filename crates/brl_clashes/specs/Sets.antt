@@ -1,6 +1,6 @@
 -- Sets of characters that a table treats as one: with the same cells, classes and flags, and in no
 -- rule. In a list of clashes the first of a set represents the others. The project's own choice.
-use Rattle.std.specs.Prelude.{ℕ, ◌-◌, Bool, false, ◌&&◌, ◌||◌, ◌==◌, if◌then◌else◌, List, [], flat_map, length, map, nat_eq, nat_le, nat_lt, not, slice_get}
+use Rattle.std.specs.Prelude.{ℕ, ◌-◌, Bool, false, Option, None, ◌&&◌, ◌||◌, ◌==◌, if◌then◌else◌, List, [], flat_map, length, map, nat_eq, nat_le, nat_lt, not, slice_get}
 use Rattle.std.specs.Bool.{beq}
 use Rattle.std.specs.Cmp.Lexicographic.{pointwise}
 use Rattle.std.specs.List.{count_by, filter, find, list_any}
@@ -67,13 +67,28 @@ first_of_set t characters c = if list_any (nat_eq c) characters then first_among
 abbrev pub first_number : TableView → List ℕ → ℕ → ℕ
 first_number t characters c = own_number t (first_of_set t characters c)
 
--- the rule that represents the one with a number: for the own definition of a character that of the
--- first of its set
+-- for each character of a table, by its number, the own definition that represents its own, and the
+-- one that represents that of its small letter
+pub record FirstsView : Type 0 where
+  pub own : List ℕ
+  pub small : List ℕ
+
+-- these, where some characters have sets
+abbrev pub firsts_of : TableView → List ℕ → FirstsView
+firsts_of t characters = record {
+  own = map (first_number t characters) (table_characters t);
+  small = map (λ c. first_number t characters (fold_of t c)) (table_characters t);
+}
+
+-- the character of which the own definition has a number
+abbrev pub own_character : TableView → ℕ → Option ℕ
+own_character t number = if nat_le (length t.rules) number then slice_get (table_characters t) (number - length t.rules) else None
+
+-- the rule that represents the one with a number: for the own definition of a character the one
+-- that a list has for the character
 abbrev pub representative : TableView → List ℕ → ℕ → ℕ
-representative t characters number =
-    if nat_le (length t.rules) number
-    then option_map_or (first_number t characters) (slice_get (table_characters t) (number - length t.rules)) number
-    else number
+representative t firsts number =
+    if nat_le (length t.rules) number then unwrap_or (slice_get firsts (number - length t.rules)) number else number
 
 -- a pair of rules with the lesser number first
 abbrev pub in_order : ℕ → ℕ → ℕ × ℕ
@@ -85,7 +100,8 @@ abbrev pub is_folded : List (ℕ × ℕ) → ℕ × ℕ → ℕ × ℕ → Bool
 is_folded listed rules first =
     not (is_pair rules first) && ((not (rules.0 == rules.1) && (first.0 == first.1)) || has_pair listed (in_order first.0 first.1))
 
--- whether another line represents a clash of a table
+-- whether another line represents a clash of a table, where these own definitions represent
+-- others
 abbrev pub is_represented : TableView → List ℕ → List (ℕ × ℕ) → RuleClash → Bool
-is_represented t characters listed clash =
-    is_folded listed (clash.lesser, clash.greater) (representative t characters clash.lesser, representative t characters clash.greater)
+is_represented t firsts listed clash =
+    is_folded listed (clash.lesser, clash.greater) (representative t firsts clash.lesser, representative t firsts clash.greater)

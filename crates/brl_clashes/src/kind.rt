@@ -11,7 +11,7 @@ ghost use Rattle.brl_clashes.specs.Kinds.{
   of_kinds as are_of_kinds,
   or_letter,
 };
-ghost use Rattle.brl_clashes.specs.SectionText.{kind_name};
+ghost use Rattle.brl_clashes.specs.Columns.{kind_name};
 
 use bitflags::Flags;
 use brl_rules::{Class, Table};
@@ -92,7 +92,7 @@ fn kind_of(classes: Class) -> Kind
 }
 
 /// Whether a character of a table is of a kind.
-fn is_of(table: &Table, kind: Kind, character: char) -> bool
+pub fn is_of(table: &Table, kind: Kind, character: char) -> bool
     ensures { result ≡ is_character_of table.now kind character }
 {
     let classes = match table.info(character) {

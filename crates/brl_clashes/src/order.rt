@@ -30,7 +30,7 @@ fn unequal(clash: &RuleClash) -> u8
 }
 
 /// At how many places the texts of a clash differ, and 0 where one is longer.
-fn differing(clash: &RuleClash) -> usize
+pub fn differing(clash: &RuleClash) -> usize
     ensures { result ≡ differing clash.now.clash.left clash.now.clash.right }
 {
     let left = clash.clash.left();

@@ -1,59 +1,76 @@
 //! The text of a section.
-ghost use Rattle.std.specs.Prelude.{◌≡◌, ◌++◌, ◌-◌, ◌≤◌, ℕ, IfOk, List, OnOk, filter, flat_map, length, map, not, string_bytes};
+ghost use Rattle.std.specs.Prelude.{◌≡◌, ◌++◌, IfOk, OnOk, flat_map, length, map, string_bytes};
 ghost use Rattle.std.specs.List.Sorted.{IsPermutation, IsSorted};
 ghost use Rattle.brl_clashes.specs.Order.{suspicion_cmp};
 ghost use Rattle.brl_clashes.specs.SectionText.{
+  ArePairLines,
+  IsBody,
   IsSectionText,
   clash_lines,
   first_ones as first_clashes,
   heading as heading_of,
+  heading_in as heading_of_form,
+  is_by_kinds as is_by_kinds_in,
+  is_shown as is_shown_in,
   more_note as note_of_more,
   number_line,
   rule_clash_line,
+  shown_among,
+  shown_lines,
 };
+ghost use Rattle.brl_clashes.specs.Columns.{column_line};
+ghost use Rattle.brl_clashes.specs.declared.list_form.ListForm.TheVariants.{Screen};
 ghost use Rattle.brl_clashes.specs.Sections.{AreClashesOf, clashes_beside, clashes_of, listed_after};
-ghost use Rattle.brl_without.specs.Alphabet.{table_characters};
-ghost use Rattle.brl_clashes.specs.Sets.{first_number as number_of_first, is_represented as is_represented_in};
 ghost use Rattle.brl_lines.specs.Views.{line_view};
 ghost use Rattle.brl_search.specs.Clashes.{rules_of_clashes};
 
+use crate::columns::push_columns;
 use crate::listed_pairs::ListedPairs;
 use crate::order::compare_clashes;
-use crate::representatives::is_represented;
+use crate::pair_tests::kind_of;
+use crate::representatives::{Firsts, is_represented};
+use crate::screen::kind_lines;
 use crate::section::{into_clashes, is_whole};
 use crate::verdict::{others_note, pairs_words};
-use crate::{Kind, Section};
+use crate::{Kind, ListForm, Section};
 use brl_lines::Line;
 use brl_report::push_clash_line;
 use brl_rules::Table;
 use brl_search::RuleClash;
 use std::alloc::{AllocError, Global};
 
-/// How much of each section is shown.
+/// What is shown of each section.
 #[derive(Clone, Copy)]
-pub struct Shown {
-    /// How many clashes; 0 for all.
-    pub first: usize,
+pub struct Shown<'a> {
+    pub form: ListForm<'a>,
     /// Whether accepted pairs were left out of the sections.
     pub taken: bool,
 }
 
+/// A table with its lines, the own definitions that represent others, and the pairs of rules that
+/// are listed.
+#[derive(Clone, Copy)]
+pub struct Listing<'a> {
+    pub alloc: Global,
+    pub table: &'a Table,
+    pub lines: &'a [Line<'a>],
+    pub firsts: &'a Firsts,
+    pub listed: &'a ListedPairs,
+}
+
 /// The text of a section after sections that list these pairs of rules, to which its own are added:
-/// how many new ones it lists, the lines of the first of them, and how many have none. The most
-/// suspicious come first. Those that another line represents have none of their own.
+/// how many new ones it lists, and their lines: of pairs, or of kinds of pairs.
 pub fn section_text(
     alloc: Global,
     table: &Table,
     lines: &[Line<'_>],
-    firsts: &[u32],
-    shown: Shown,
+    firsts: &Firsts,
+    shown: Shown<'_>,
     listed: &mut ListedPairs,
     section: Section,
 ) -> Result<String, AllocError>
-    requires firsts { (characters : List ℕ) × (firsts.now ≡ map (number_of_first table.now characters) (table_characters table.now)) }
-    requires clashes { AreClashesOf table.now (clashes_of section.found) }
-    ensures text { (characters : List ℕ) → firsts.now ≡ map (number_of_first table.now characters) (table_characters table.now)
-        → IfOk result (λ text. IsSectionText table.now (map line_view lines.now) characters shown.taken shown.first listed.old section (string_bytes text)) }
+    requires { AreClashesOf table.now (clashes_of section.found) }
+    ensures text { IfOk result (λ text. IsSectionText table.now (map line_view lines.now) firsts.now shown.entry.form shown.entry.taken listed.old section (string_bytes text)) }
     ensures listed { OnOk result (listed.new ≡ listed_after listed.old section) }
 {
     let Section { kind, found } = section;
@@ -62,18 +79,108 @@ pub fn section_text(
     let new = new_clashes(listed, into_clashes(found));
     let count = new.len();
     push_rules(listed, new.as_slice())?;
-    let own = in_order(own_clashes(table, firsts, listed, new));
-    let mut text = heading(alloc, shown.taken, kind, count, more, whole)?;
-    push_clashes(
+    let listing = Listing {
         alloc,
         table,
         lines,
-        shown.first,
-        count,
-        own.as_slice(),
-        &mut text,
-    )?;
+        firsts,
+        listed,
+    };
+    let mut text = heading_in(alloc, shown, kind, count, more, whole)?;
+    let body = body(listing, shown.form, kind, new)?;
+    text.push_str(body.as_str())?;
     Ok(text)
+}
+
+/// The lines of a section after its heading: those of its new clashes, or of their kinds.
+fn body(
+    listing: Listing<'_>,
+    form: ListForm<'_>,
+    kind: Kind,
+    new: Vec<RuleClash>,
+) -> Result<String, AllocError>
+    requires { AreClashesOf listing.table.now new.items }
+    ensures { IfOk result (λ text. IsBody listing.entry.table.now (map line_view listing.entry.lines.now) listing.entry.firsts.now listing.entry.listed.now form.entry kind new.items (string_bytes text)) }
+{
+    if is_by_kinds(listing, form, new.as_slice()) {
+        kind_lines(listing, kind, new)
+    } else {
+        pair_lines(listing, form, kind, new)
+    }
+}
+
+/// Whether these new clashes of a section are shown by their kinds.
+fn is_by_kinds(listing: Listing<'_>, form: ListForm<'_>, new: &[RuleClash]) -> bool
+    ensures { result ≡ is_by_kinds_in form.entry listing.entry.table.now listing.entry.firsts.now listing.entry.listed.now new.now }
+{
+    match form {
+        ListForm::Screen => shown_count(listing, new) > MOST_LINES,
+        ListForm::Pairs { .. } | ListForm::Columns { .. } => false,
+    }
+}
+
+/// The most clashes of a section that all have a line, where nothing else is asked for.
+const MOST_LINES: usize = 12;
+
+/// How many of these clashes no other line represents.
+fn shown_count(listing: Listing<'_>, new: &[RuleClash]) -> usize
+    ensures { result ≡ length (shown_among Screen listing.entry.table.now listing.entry.firsts.now listing.entry.listed.now new.now) }
+{
+    new.iter()
+        .filter(|clash| is_shown(listing, ListForm::Screen, clash))
+        .count()
+}
+
+/// The lines of these clashes.
+fn pair_lines(
+    listing: Listing<'_>,
+    form: ListForm<'_>,
+    kind: Kind,
+    new: Vec<RuleClash>,
+) -> Result<String, AllocError>
+    requires { AreClashesOf listing.table.now new.items }
+    ensures { IfOk result (λ text. ArePairLines listing.entry.table.now (map line_view listing.entry.lines.now) listing.entry.firsts.now listing.entry.listed.now form.entry kind new.items (string_bytes text)) }
+{
+    let count = new.len();
+    let shown = in_order(shown_clashes(listing, form, new));
+    let mut text = String::new(listing.alloc);
+    push_shown(listing, form, kind, count, shown.as_slice(), &mut text)?;
+    Ok(text)
+}
+
+/// Appends the lines of these clashes in a form; `count` is the number of new ones.
+fn push_shown(
+    listing: Listing<'_>,
+    form: ListForm<'_>,
+    kind: Kind,
+    count: usize,
+    shown: &[RuleClash],
+    text: &mut String,
+) -> Result<(), AllocError>
+    requires { AreClashesOf listing.table.now shown.now }
+    ensures { OnOk result (string_bytes text.new ≡ string_bytes text.old
+        ++ shown_lines listing.entry.table.now (map line_view listing.entry.lines.now) listing.entry.firsts.now listing.entry.listed.now form.entry kind count shown.now) }
+{
+    match form {
+        ListForm::Columns { .. } => push_all_columns(listing, kind, shown, text),
+        _ => push_clashes(listing, form, count, shown, text),
+    }
+}
+
+/// Appends the lines of these clashes as columns.
+fn push_all_columns(
+    listing: Listing<'_>,
+    kind: Kind,
+    shown: &[RuleClash],
+    text: &mut String,
+) -> Result<(), AllocError>
+    ensures { OnOk result (string_bytes text.new ≡ string_bytes text.old
+        ++ flat_map (column_line listing.entry.table.now (map line_view listing.entry.lines.now) listing.entry.firsts.now listing.entry.listed.now kind) shown.now) }
+{
+    for clash in shown {
+        push_columns(listing, kind, clash, text)?;
+    }
+    Ok(())
 }
 
 /// The clashes whose pairs of rules aren't listed yet.
@@ -95,29 +202,63 @@ fn push_rules(listed: &mut ListedPairs, clashes: &[RuleClash]) -> Result<(), All
     Ok(())
 }
 
-/// The clashes that no other line represents.
-fn own_clashes(
-    table: &Table,
-    firsts: &[u32],
-    listed: &ListedPairs,
+/// Whether a clash has a line.
+fn is_shown(listing: Listing<'_>, form: ListForm<'_>, clash: &RuleClash) -> bool
+    ensures { result ≡ is_shown_in form.entry listing.entry.table.now listing.entry.firsts.now listing.entry.listed.now clash.now }
+{
+    let Listing {
+        table,
+        firsts,
+        listed,
+        ..
+    } = listing;
+    match form {
+        ListForm::Columns { key: None } => true,
+        ListForm::Pairs { key: Some(key), .. } | ListForm::Columns { key: Some(key) } => {
+            kind_of(table, firsts, listed, clash).key() == key
+        }
+        _ => !is_represented(table, firsts.own.as_slice(), listed, clash),
+    }
+}
+
+/// The clashes among these that have a line.
+fn shown_clashes(
+    listing: Listing<'_>,
+    form: ListForm<'_>,
     clashes: Vec<RuleClash>,
 ) -> Vec<RuleClash>
-    ensures { (characters : List ℕ) → firsts.now ≡ map (number_of_first table.now characters) (table_characters table.now)
-        → result.items ≡ filter (λ clash. not (is_represented_in table.now characters listed.now clash)) clashes.items }
+    ensures { result.items ≡ shown_among form.entry listing.entry.table.now listing.entry.firsts.now listing.entry.listed.now clashes.items }
 {
-    let mut own = clashes;
-    own.retain(|clash| !is_represented(table, firsts, listed, clash));
-    own
+    let mut shown = clashes;
+    shown.retain(|clash| is_shown(listing, form, clash));
+    shown
 }
 
 /// These clashes, the most suspicious first.
-fn in_order(clashes: Vec<RuleClash>) -> Vec<RuleClash>
+pub(crate) fn in_order(clashes: Vec<RuleClash>) -> Vec<RuleClash>
     ensures moved { IsPermutation clashes.items result.items }
     ensures sorted { IsSorted suspicion_cmp result.items }
 {
     let mut sorted = clashes;
     sorted.sort_unstable_by(|one, other| compare_clashes(one, other));
     sorted
+}
+
+/// The first line of a section in a form; columns have none.
+fn heading_in(
+    alloc: Global,
+    shown: Shown<'_>,
+    kind: Kind,
+    count: usize,
+    more: bool,
+    whole: bool,
+) -> Result<String, AllocError>
+    ensures { IfOk result (λ text. string_bytes text ≡ heading_of_form shown.entry.form shown.entry.taken kind count more whole) }
+{
+    match shown.form {
+        ListForm::Columns { .. } => Ok(String::new(alloc)),
+        _ => heading(alloc, shown.taken, kind, count, more, whole),
+    }
 }
 
 /// The first line of a section.
@@ -148,22 +289,26 @@ fn more_note(more: bool) -> &'static str
 /// Appends the lines of the first of these clashes, how many more there are, and how many of a
 /// number of clashes aren't among these.
 fn push_clashes(
-    alloc: Global,
-    table: &Table,
-    lines: &[Line<'_>],
-    first: usize,
+    listing: Listing<'_>,
+    form: ListForm<'_>,
     count: usize,
     shown: &[RuleClash],
     text: &mut String,
 ) -> Result<(), AllocError>
-    requires { AreClashesOf table.now shown.now }
-    ensures { OnOk result (string_bytes text.new ≡ string_bytes text.old ++ clash_lines table.now (map line_view lines.now) first count shown.now) }
+    requires { AreClashesOf listing.table.now shown.now }
+    ensures { OnOk result (string_bytes text.new ≡ string_bytes text.old ++ clash_lines listing.entry.table.now (map line_view listing.entry.lines.now) form.entry count shown.now) }
 {
-    let begun = first_ones(first, shown);
+    let Listing {
+        alloc,
+        table,
+        lines,
+        ..
+    } = listing;
+    let begun = first_ones(form.first(), shown);
     push_lines(alloc, table, lines, begun, text)?;
     push_number(text, shown.len().saturating_sub(begun.len()), " more")?;
-    let folded = count.saturating_sub(shown.len());
-    push_number(text, folded, " of other characters of the sets")?;
+    let others = count.saturating_sub(shown.len());
+    push_number(text, others, form.others())?;
     Ok(())
 }
 

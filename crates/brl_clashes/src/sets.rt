@@ -1,6 +1,7 @@
 //! Sets of characters that a table treats as one.
 ghost use Rattle.std.specs.Prelude.{◌≡◌, ◌++◌, [], IfOk, OnOk, filter, find, flat_map, map, string_bytes};
-ghost use Rattle.brl_clashes.specs.ClashesText.{dots_of as dots, set_line, many_sets as many_sets_line, sets_heading as heading_of_sets, sets_text as text_of_sets};
+ghost use Rattle.std.specs.Fmt.{decimal};
+ghost use Rattle.brl_clashes.specs.ClashesText.{dots_of as dots, set_line, sets_heading as heading_of_sets, sets_in as sets_in_form, sets_text as text_of_sets};
 ghost use Rattle.brl_clashes.specs.Sets.{
   are_equal as are_equal_in,
   first_among as first_of_characters,
@@ -13,7 +14,9 @@ ghost use Rattle.brl_clashes.specs.Sets.{
   set_among,
   sets_of_table,
 };
+ghost use Rattle.brl_rules.specs.Text.{fold_of as fold_in};
 
+use crate::ListForm;
 use crate::kind::kept_characters;
 use brl_answers::spell_one_by_one;
 use brl_cells::write_dots;
@@ -51,11 +54,17 @@ fn is_plain(table: &Table, used: &LeftOut, character: char) -> bool
     requires { used.now ≡ characters_of_rules table.now }
     ensures { result ≡ is_plain_in table.now character }
 {
-    let fold = match table.info(character) {
+    !used.contains(character) && small_letter(table, character) == character
+}
+
+/// The small letter of a capital of a table, and any other character itself.
+pub fn small_letter(table: &Table, character: char) -> char
+    ensures { result ≡ fold_in table.now character }
+{
+    match table.info(character) {
         Some(info) => info.fold,
         None => character,
-    };
-    !used.contains(character) && fold == character
+    }
 }
 
 /// Whether two infos have the same cells, classes and flags.
@@ -157,14 +166,41 @@ fn sets_opened(
     Ok(sets)
 }
 
-/// The lines of the sets of two or more of these characters of a table, after how many there are;
-/// the characters are those that aren't left out and that no rule has. Empty where there are none.
-pub fn sets_text(alloc: Global, table: &Table, characters: &[char]) -> Result<String, AllocError>
-    ensures { IfOk result (λ text. string_bytes text ≡ text_of_sets table.now characters.now) }
+/// The most sets that have lines where pairs are shown by their kinds.
+const MOST_SETS: usize = 3;
+
+/// The lines of the sets of two or more of these characters of a table in a form, after how many
+/// there are; the characters are those that aren't left out and that no rule has. Empty where there
+/// are none, and one line where pairs are shown by their kinds and there are many.
+pub fn sets_in(
+    alloc: Global,
+    form: ListForm<'_>,
+    table: &Table,
+    characters: &[char],
+) -> Result<String, AllocError>
+    ensures { IfOk result (λ text. string_bytes text ≡ sets_in_form form.entry table.now characters.now) }
 {
     let openers = openers(alloc, table, characters)?;
+    let count = openers.len();
+    match form {
+        ListForm::Screen if count > MOST_SETS => counted(alloc, count, HIDDEN_SETS),
+        ListForm::Columns { .. } => Ok(String::new(alloc)),
+        _ => sets_text(alloc, table, characters, openers.as_slice()),
+    }
+}
+
+/// The lines of the sets that these characters open, after how many there are.
+fn sets_text(
+    alloc: Global,
+    table: &Table,
+    characters: &[char],
+    openers: &[char],
+) -> Result<String, AllocError>
+    requires { openers.now ≡ openers_among table.now characters.now }
+    ensures { IfOk result (λ text. string_bytes text ≡ text_of_sets table.now characters.now) }
+{
     let mut text = sets_heading(alloc, openers.len())?;
-    push_sets(alloc, table, characters, openers.as_slice(), &mut text)?;
+    push_sets(alloc, table, characters, openers, &mut text)?;
     Ok(text)
 }
 
@@ -185,6 +221,10 @@ const ONE_SET: &str =
 const SETS: &str =
     " sets of characters have the same cells, classes and flags, and are in no rule; below, the first of each represents its set:\n";
 
+/// What follows the number of sets that have no lines.
+const HIDDEN_SETS: &str =
+    " sets of characters have the same cells, classes and flags, in no rule; --first 0 lists them\n";
+
 /// The line before the lines of this many sets; empty where there are none.
 fn sets_heading(alloc: Global, count: usize) -> Result<String, AllocError>
     ensures { IfOk result (λ text. string_bytes text ≡ heading_of_sets count) }
@@ -195,16 +235,16 @@ fn sets_heading(alloc: Global, count: usize) -> Result<String, AllocError>
     if count == 1 {
         return String::from_str(alloc, ONE_SET);
     }
-    many_sets(alloc, count)
+    counted(alloc, count, SETS)
 }
 
-/// The line before the lines of several sets.
-fn many_sets(alloc: Global, count: usize) -> Result<String, AllocError>
-    ensures { IfOk result (λ text. string_bytes text ≡ many_sets_line count) }
+/// A number, and words after it.
+fn counted(alloc: Global, count: usize, words: &str) -> Result<String, AllocError>
+    ensures { IfOk result (λ text. string_bytes text ≡ decimal count ++ words.now) }
 {
     let mut text = String::new(alloc);
     write!(text, "{count}")?;
-    text.push_str(SETS)?;
+    text.push_str(words)?;
     Ok(text)
 }
 

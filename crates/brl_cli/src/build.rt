@@ -1,7 +1,7 @@
 //! The command line that `clap` gets, made of the pages.
 
 use crate::pages::{
-    ABOUT, Argument, LINE_PAGES, PATH, Page, RULE_PAGES, STATUSES, TEXT_PAGES, Takes,
+    ABOUT, Argument, LINE_PAGES, LIST_PAGES, PATH, Page, RULE_PAGES, STATUSES, TEXT_PAGES, Takes,
 };
 use clap::{Arg, ArgAction, Command, value_parser};
 use std::alloc::{AllocError, Global};
@@ -17,9 +17,31 @@ pub fn command_line<'a>(alloc: Global) -> Result<Command<'a>, AllocError> {
         .after_help(STATUSES)
         .subcommand_required(true)
         .arg_required_else_help(true)
-        .subcommands(commands(alloc, &TEXT_PAGES)?)?
-        .subcommands(commands(alloc, &LINE_PAGES)?)?
-        .subcommands(commands(alloc, &RULE_PAGES)?)
+        .subcommands(text_commands(alloc)?)?
+        .subcommands(list_commands(alloc)?)?
+        .subcommands(line_commands(alloc)?)?
+        .subcommands(rule_commands(alloc)?)
+}
+
+/// The commands on texts and on all texts. Each list has a function of its own, since the prover's
+/// steps don't suffice for one that names them all.
+fn text_commands<'a>(alloc: Global) -> Result<Vec<Command<'a>>, AllocError> {
+    commands(alloc, &TEXT_PAGES)
+}
+
+/// The command that lists clashes.
+fn list_commands<'a>(alloc: Global) -> Result<Vec<Command<'a>>, AllocError> {
+    commands(alloc, &LIST_PAGES)
+}
+
+/// The commands on the lines of tables.
+fn line_commands<'a>(alloc: Global) -> Result<Vec<Command<'a>>, AllocError> {
+    commands(alloc, &LINE_PAGES)
+}
+
+/// The commands on the rules of a table.
+fn rule_commands<'a>(alloc: Global) -> Result<Vec<Command<'a>>, AllocError> {
+    commands(alloc, &RULE_PAGES)
 }
 
 /// The command lines of the commands of these pages.
@@ -57,6 +79,7 @@ fn argument<'a>(alloc: Global, row: Argument) -> Result<Arg<'a>, AllocError> {
         Takes::SwitchBeside(needed, barred) => switch(argument, name)
             .requires_arg(needed)?
             .conflicts_with(barred)?,
+        Takes::SwitchBut(barred) => switch(argument, name).conflicts_with(barred)?,
         Takes::Text(value) => text(argument, name, value),
         Takes::TextBut(value, barred) => text(argument, name, value).conflicts_with(barred)?,
         Takes::Texts(value) => text(argument, name, value).action(ArgAction::Append),
@@ -65,6 +88,14 @@ fn argument<'a>(alloc: Global, row: Argument) -> Result<Arg<'a>, AllocError> {
             .value_name("N")
             .value_parser(value_parser!(u32))
             .default_value(usual),
+        Takes::MaybeNumber => argument
+            .long(name)
+            .value_name("N")
+            .value_parser(value_parser!(u32)),
+        Takes::MaybeName(value, names) => argument
+            .long(name)
+            .value_name(value)
+            .value_parser(names.as_slice()),
         Takes::Name(value, names) => argument
             .long(name)
             .value_name(value)

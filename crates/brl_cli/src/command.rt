@@ -63,12 +63,15 @@ pub enum Question<'a> {
         alphabet: AlphabetOption<'a>,
     },
     /// At which pairs of rules clashing texts diverge. At most `limit` states, pairs and pairs of
-    /// rules may be found for each section; `first` clashes of each are shown, and all where it
-    /// is 0.
+    /// rules may be found for each section. The first `first` pairs of each are shown, all where it
+    /// is 0; those of one kind, where its key is given; and where neither is, the kinds of them. A
+    /// list in columns is for programs.
     Clashes {
         table: &'a str,
         limit: u32,
-        first: u32,
+        first: Option<u32>,
+        key: Option<&'a str>,
+        columns: bool,
         alphabet: AlphabetOption<'a>,
         pairs: PairFiles<'a>,
     },

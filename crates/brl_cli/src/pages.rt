@@ -1,6 +1,9 @@
 //! The words that `brl` knows: a page for each command, with a row for each operand and option.
 
-use Takes::{Name, Number, Numbers, Operand, Operands, Switch, SwitchBeside, Text, TextBut, Texts};
+use Takes::{
+    MaybeName, MaybeNumber, Name, Number, Numbers, Operand, Operands, Switch, SwitchBeside,
+    SwitchBut, Text, TextBut, Texts,
+};
 
 /// A command, as its help shows it.
 pub struct Page {
@@ -32,6 +35,8 @@ pub enum Takes {
     Switch,
     /// An option without a value that needs the first of these options and bars the second.
     SwitchBeside(&'static str, &'static str),
+    /// An option without a value that bars another option.
+    SwitchBut(&'static str),
     /// An option with a text, whose value the help calls so.
     Text(&'static str),
     /// An option with a text, whose value the help calls so, and that bars another option.
@@ -43,7 +48,17 @@ pub enum Takes {
     /// An option with one of these names, whose value the help calls so. It is the first name where
     /// the words don't say.
     Name(&'static str, &'static [&'static str; 2]),
+    /// An option with a number, which may be missing.
+    MaybeNumber,
+    /// An option with one of these names, whose value the help calls so, which may be missing.
+    MaybeName(&'static str, &'static [&'static str; 13]),
 }
+
+/// The keys of the kinds of pairs of rules.
+const KIND_KEYS: [&str; 13] = [
+    "alike", "rules", "cells", "case", "several", "begins", "word", "asdigit", "number", "sets",
+    "again", "unseen", "braille",
+];
 
 /// The name of Braille ASCII on the command line.
 pub const ASCII: &str = "ascii";
@@ -134,7 +149,7 @@ macro_rules! page {
 
 /// The commands on texts and on all texts, which `brl --help` shows first. The prover's steps don't
 /// suffice for one list of all commands.
-pub static TEXT_PAGES: [Page; 5] = [
+pub static TEXT_PAGES: [Page; 4] = [
     page! {
         "translate": "Translates text into braille by a liblouis table",
         arguments: [
@@ -268,10 +283,15 @@ It prints:
   certified: 2 states, 0 pairs
   accepted: 2 states, 0 pairs",
     },
-    page! {
+];
+
+/// The command that lists clashes, whose page is the longest.
+pub static LIST_PAGES: [Page; 1] = [page! {
         "clashes": "Lists every pair of rules by which texts look alike",
         arguments: [
-            Argument("first", Number("12"), "How many lines of each section are shown; 0 for all"),
+            Argument("first", MaybeNumber, "Show a line for each of the first N pairs of a section; 0 for all"),
+            Argument("kind", MaybeName("KEY", &KIND_KEYS), "Show the pairs of one kind alone"),
+            Argument("tsv", SwitchBut("first"), "Print a line for each pair, with tabs between columns"),
             LIMIT,
             WITHOUT,
             ONLY,
@@ -289,8 +309,28 @@ first for texts of small letters and blanks, then with digits, with capitals,
 with marks, and for all characters. A pair is listed once, in the first section
 that it diverges in. Its line has two texts, their cells, and of each rule the file
 and line, the opcode and the characters. The most suspicious come first: texts of
-the same length by how few characters differ, then short texts. N lines of a
-section are shown, or all for --first 0, and how many more there are.
+the same length by how few characters differ, then short texts.
+
+A section of more than 12 pairs has a line for each kind of them: how many there
+are, and examples. Kinds without examples are in its last lines, by the key that
+--kind takes. Before all sections come rules that look like slips, as brl slips
+shows them. With --first each pair has a line, N of a section, or all for 0, and
+with --kind each pair of one kind. With --tsv the first line names columns, and
+each pair has a line, with the file, the line and the words of each rule; there
+are no other lines. The kinds, the first whose test holds:
+  sets     the pair of the first characters of sets represents it
+  braille  a text has a braille pattern
+  unseen   a text has an unseen character but the blank, or a rule defines one
+  case     capitals alone differ
+  again    the pair of small letters represents it
+  asdigit  one text has more digits, and both begin with the same digit
+  number   one text has more digits
+  cells    the characters have the same cells, each the one at its place
+  alike    the texts have one length, and one or two letters differ
+  rules    two rules with the same cells
+  begins   two rules with other cells
+  several  a character with the cells of several others
+  word     a rule with the cells of other texts
 
 Characters with the same cells, classes and flags that are in no rule are listed
 as sets before the sections, and one of each set represents the others there.
@@ -298,7 +338,8 @@ as sets before the sections, and one of each set represents the others there.
 The last line says how many pairs of rules there are, and the exit status is 1;
 where there are none, the table is unambiguous, and the status is 0. Where a list
 has more than N states, pairs of states or pairs of rules, there may be others
-than those listed, and the status is 3.
+than those listed, and the status is 3: --limit 10000 is a first look at a large
+table.
 
 With --write the pairs that are listed go to FILE, a line for each: what its two
 rules say, with ' / ' between them. A line 'exchange' with the characters of a
@@ -326,8 +367,7 @@ It prints:
     abc / ab  1-12  three.ctb:4 word abc  three.ctb:1 letter a
     bca / bc  12-14  three.ctb:5 word bca  three.ctb:2 letter b
   2 pairs of rules diverge, and no others",
-    },
-];
+    }];
 
 /// The commands on lines and steps.
 pub static LINE_PAGES: [Page; 3] = [

@@ -124,7 +124,9 @@ fn clashes<'a>(found: &ArgMatches<'a>) -> Option<Question<'a>> {
     Some(Question::Clashes {
         table: found.get_str("TABLE")?,
         limit: found.get_one("limit")?,
-        first: found.get_one("first")?,
+        first: found.get_one("first"),
+        key: found.get_str("kind"),
+        columns: found.get_flag("tsv"),
         alphabet: alphabet_option(found),
         pairs: PairFiles {
             accept: found.get_str("accept"),

@@ -48,5 +48,5 @@ pub use number::read_number;
 pub use operand::{CharsFault, characters, chars_of};
 pub use source::{MOST_FILE_BYTES, Source, SourceFault};
 pub use spelling::spell_chars;
-pub use visible::{spell_visibly, visible_line};
+pub use visible::{is_unseen, spell_visibly, visible_line};
 pub use way::{IncludeReason, LeftInclude};

@@ -42,7 +42,7 @@ fn is_unseen_category(category: GeneralCategory) -> bool
 
 /// Whether a character can't be seen: a blank or a control character, one that is ignored by
 /// default, or a blank of another kind, the braille pattern without dots among them.
-fn is_unseen(character: char) -> bool
+pub fn is_unseen(character: char) -> bool
     ensures { result ≡ cannot_be_seen character }
 {
     if character < '\u{7f}' {

@@ -4,13 +4,13 @@ use std::alloc::{AllocError, Global};
 
 /// The paths of the files of lines, each once.
 #[derive(Drop)]
-pub(crate) struct FileNames<'a> {
+pub struct FileNames<'a> {
     paths: Vec<&'a str>,
 }
 
 impl<'a> FileNames<'a> {
     /// The files of these lines.
-    pub(crate) fn of_lines(alloc: Global, lines: &[Line<'a>]) -> Result<FileNames<'a>, AllocError> {
+    pub fn of_lines(alloc: Global, lines: &[Line<'a>]) -> Result<FileNames<'a>, AllocError> {
         let mut paths: Vec<&'a str> = Vec::new(alloc);
         let mut last = "";
         for line in lines {
@@ -24,7 +24,7 @@ impl<'a> FileNames<'a> {
 
     /// The name of the file at a path: the last part of the path, and the whole where another file
     /// has that.
-    pub(crate) fn name<'b>(&self, path: &'b str) -> &'b str {
+    pub fn name<'b>(&self, path: &'b str) -> &'b str {
         let name = last_part(path);
         if self
             .paths

@@ -31,6 +31,7 @@ mod words;
 
 pub use columns::slips_columns;
 pub use fault::Fault;
+pub use files::FileNames;
 pub use findings::{Findings, find_slips};
 pub use habit::Habit;
 pub use lexicon::{Entry, Lexicon, Piece, read_lexicon};

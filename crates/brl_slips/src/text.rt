@@ -13,13 +13,14 @@ use unicode_width::UnicodeWidthStr;
 const MOST_WIDTH: usize = 34;
 
 /// The text of what was found in a table of these lines: how many slips and twins there are, a
-/// line for each, below the name of its file, a line for each habit, and how many rules were tested
-/// where not all were.
+/// line for each of the first `most`, below the name of its file, how many more there are, a line
+/// for each habit, and how many rules were tested where not all were.
 pub fn slips_text(
     alloc: Global,
     lexicon: &Lexicon,
     lines: &[Line<'_>],
     findings: &Findings,
+    most: usize,
 ) -> Result<String, AllocError> {
     let names = Names::of_pieces(alloc, &lexicon.alphabet, lexicon.pieces.as_slice())?;
     let files = FileNames::of_lines(alloc, lines)?;
@@ -33,7 +34,9 @@ pub fn slips_text(
     let rows = found.rows()?;
     let mut text = String::new(alloc);
     push_count(&mut text, rows.len())?;
-    push_rows(alloc, &mut text, &files, rows.as_slice())?;
+    let first = rows.as_slice().get(..most).unwrap_or(rows.as_slice());
+    push_rows(alloc, &mut text, &files, first)?;
+    push_more(&mut text, rows.len().saturating_sub(first.len()))?;
     for habit in &findings.habits {
         push_habit(found, &mut text, &files, habit)?;
     }
@@ -51,6 +54,14 @@ fn push_count(text: &mut String, rows: usize) -> Result<(), AllocError> {
             Ok(())
         }
     }
+}
+
+/// Appends how many rows have no line.
+fn push_more(text: &mut String, more: usize) -> Result<(), AllocError> {
+    if more > 0 {
+        writeln!(text, "    {more} more: brl slips")?;
+    }
+    Ok(())
 }
 
 /// Appends how many rules were tested, where these are not all.

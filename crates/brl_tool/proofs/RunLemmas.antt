@@ -52,7 +52,7 @@ module _ (before after : World) (same_file : MayBeSame) (input : Option (List �
   report_of (question.Clash path left right options) means = inl means
   report_of (question.Check path cert accept option) means = inr (inl means)
   report_of (question.Search path out limit accept option) means = inl means
-  report_of (question.Clashes path limit first option pairs) means = inr (inr (inl (path.now, option, pairs, means)))
+  report_of (question.Clashes path limit first key columns option pairs) means = inr (inr (inl (path.now, option, pairs, means)))
   report_of (question.Unused path limit option) means = inr (inr (inr (inl means)))
   report_of (question.Survey paths brief only) means = inr (inr (inr (inr (inl (only, means)))))
   report_of (question.Cut path dir rewrite only) means = inr (inr (inr (inr (inr (inl (path.now, dir.now, rewrite, (only, means)))))))
@@ -79,7 +79,7 @@ module _ (before after : World) (same_file : MayBeSame) (input : Option (List �
   pruned_path pairs is = ap (λ (b : Bool). if b then option_copied pairs.accept else option_copied pairs.write) is
 
   gains : (asked : Question) → MeansRefuted asked before after → KeepsFilesRefuted asked before after → MayGainFiles before.gives after.gives
-  gains (question.Clashes path limit first option pairs) (alphabet, spelled, (lines, accepted, list, other)) keeps =
+  gains (question.Clashes path limit first key columns option pairs) (alphabet, spelled, (lines, accepted, list, other)) keeps =
       gained (written_path pairs) (is_written pairs.prune list.is.taken list.is.left) (written_text pairs.prune list.baseline (table_of lines) lines list.is.found list.is.left)
       (λ path is. content_of pairs.prune (option_copied pairs.accept) (written_path pairs) list.baseline path lines list.is.found list.is.left (pruned_path pairs) list.read is) list.written
   gains (question.Clash path left right options) means keeps = inl (same_may keeps)

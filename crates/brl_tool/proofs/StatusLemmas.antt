@@ -38,13 +38,14 @@ use Rattle.brl_answers.proofs.StepLemmas.{then_ok}
 use Rattle.brl_clashes.proofs.Verdicts.{none_clash, only_accepted, other_clash}
 use Rattle.brl_clashes.specs.Sections.{are_whole, lists_none, outcome_of}
 use Rattle.brl_clashes.specs.declared.accepted.Taken.{Taken}
+use Rattle.brl_clashes.specs.declared.list_form.ListForm.{ListForm}
 use Rattle.brl_clashes.specs.declared.section.Section.{Section}
 use Rattle.brl_clashes.specs.declared.verdict.ListOutcome.{ListOutcome}
 use Rattle.brl_clashes.specs.declared.verdict.ListOutcome.TheVariants.{Unambiguous, Clashing, Unfinished}
 use Rattle.brl_table.specs.Reading.{PassesAll, table_of}
 use Rattle.brl_tool.specs.Baselines.{AreExcused, AreFilesWith, IsBaseline, is_written, leaves_stale, read_paths, written_path, written_text}
 use Rattle.brl_traces.specs.Traces.{ClashesDivergeAtWithout}
-use Rattle.brl_tool.specs.Diagnosing.{IsDiagnosis, status_of_sections}
+use Rattle.brl_tool.specs.Diagnosing.{IsDiagnosis, form_by, status_of_sections}
 use Rattle.brl_cut.specs.Cuts.{IsRead, written_root}
 use Rattle.brl_cut.specs.Edits.{Texts}
 use Rattle.brl_tool.specs.Comparing.{IsComparison}
@@ -354,14 +355,14 @@ module _ (before after : World) (same_file : MayBeSame) where
   at_accepted (Some path) baseline prune left_out lines found accepted taken read accepts only = only
 
   -- a list that is whole was written, and its file
-  list_written : (path : List ℕ) (alphabet : AlphabetView) (pairs : PairFiles) (baseline : Option (List ℕ)) (paths : List (List ℕ)) (lines : List LineView) (limit first : ℕ) (answer : Answer) → AreLinesOfFiles before.gives path paths lines
-      → PassesAll lines → IsBaseline before.gives (option_copied pairs.accept) baseline → (d : IsDiagnosis alphabet (table_of lines) lines limit first baseline pairs answer) → (outcome_of d.left ≡ Unfinished → ⊥)
+  list_written : (path : List ℕ) (alphabet : AlphabetView) (pairs : PairFiles) (baseline : Option (List ℕ)) (paths : List (List ℕ)) (lines : List LineView) (limit : ℕ) (form : ListForm) (answer : Answer) → AreLinesOfFiles before.gives path paths lines
+      → PassesAll lines → IsBaseline before.gives (option_copied pairs.accept) baseline → (d : IsDiagnosis alphabet (table_of lines) lines limit form baseline pairs answer) → (outcome_of d.left ≡ Unfinished → ⊥)
       → FilesAfter before.gives after.gives answer.files → Prints before after (string_bytes answer.text) → WritesList before after path alphabet pairs lines d.accepted
-  list_written path alphabet pairs baseline paths lines limit first answer are passes read d decided files prints = record {
+  list_written path alphabet pairs baseline paths lines limit form answer are passes read d decided files prints = record {
     lines_are = lines_of before.gives path paths lines are;
     passes = passes;
     limit = limit;
-    first = first;
+    form = form;
     baseline = baseline;
     read = read;
     answer = answer;
@@ -502,7 +503,7 @@ module _ (before after : World) (same_file : MayBeSame) where
       let (defined, excuses) = then_ok defines in
       let (excusal, excused, (found, searched, says)) = then_ok excuses in
       found_means path.now out.now (option_copied accept) option limit alphabet spelled read.paths read.lines are passes apart excusal excused answer files prints found searched says
-  means (question.Clashes path limit first option pairs) answer is files prints =
+  means (question.Clashes path limit first key columns option pairs) answer is files prints =
       let accept = option_copied pairs.accept in
       let (alphabet, spelled, loads) = then_ok is in
       let (loaded, are, stays) = then_ok loads in
@@ -513,7 +514,7 @@ module _ (before after : World) (same_file : MayBeSame) where
       let lines = loaded.lines in
       let t = table_of lines in
       let left_out = left_out_by t alphabet in
-      let list = list_written path.now alphabet pairs baseline loaded.paths lines limit first answer are passes read d in (
+      let list = list_written path.now alphabet pairs baseline loaded.paths lines limit (form_by columns first key) answer are passes read d in (
         (λ done.
             let none = no_pair d.taken (outcome_of d.left) (sym d.status ∙ done) in
             let written = list (λ e. let u = sym none ∙ e in cc) files prints in
@@ -594,7 +595,7 @@ module _ (before after : World) (same_file : MayBeSame) where
       let (defined, excuses) = then_ok defines in
       let (excusal, excused, judged) = then_ok excuses in
       none_changes before after answer written (judgement_has_none alphabet (option_copied accept) excusal (table_of lines) bytes answer judged) writes
-  keeps (question.Clashes path limit first option pairs) (Ok answer) status is (written, writes, e) =
+  keeps (question.Clashes path limit first key columns option pairs) (Ok answer) status is (written, writes, e) =
       let (alphabet, spelled, loads) = then_ok is in
       let (loaded, are, stays) = then_ok loads in
       let (apart, checks) = then_ok stays in
@@ -602,7 +603,7 @@ module _ (before after : World) (same_file : MayBeSame) where
       let (defined, reads) = then_ok defines in
       let (baseline, read, d) = then_ok reads in
       pairs_alone answer (written_path pairs) (is_written pairs.prune d.taken d.left) (written_text pairs.prune baseline (table_of loaded.lines) loaded.lines d.found d.left) d.files written writes
-  keeps (question.Clashes path limit first option pairs) (Err fault) status is (stay, still, e) = keeps_all_but (written_path pairs) stay
+  keeps (question.Clashes path limit first key columns option pairs) (Err fault) status is (stay, still, e) = keeps_all_but (written_path pairs) stay
   keeps asked (Err fault) status is (stay, still, e) = stay
 
   -- the answer to a question was delivered

@@ -23,13 +23,14 @@ use Rattle.brl_rules.specs.TableView.{TableView}
 use Rattle.brl_rules.specs.Translation.{IsClash}
 use Rattle.brl_clashes.specs.Sections.{are_whole}
 use Rattle.brl_clashes.specs.ListedPairs.{has_pair}
+use Rattle.brl_clashes.specs.declared.list_form.ListForm.{ListForm}
 use Rattle.brl_clashes.specs.declared.section.Section.{Section}
 use Rattle.brl_lines.specs.Tokens.{LineView}
 use Rattle.brl_tool.specs.Alphabets.{spelled_by}
 use Rattle.brl_tool.specs.Baselines.{IsBaseline, is_written, pruned_text, text_of_pairs, written_path, written_text}
 use Rattle.brl_tool.specs.ByLines.{shown_lines}
 use Rattle.brl_tool.specs.Comparing.{ComparesByWords}
-use Rattle.brl_tool.specs.Diagnosing.{Diagnoses, IsDiagnosis}
+use Rattle.brl_tool.specs.Diagnosing.{Diagnoses, IsDiagnosis, form_by}
 use Rattle.brl_cut.specs.Cuts.{IsCut, IsRead, written_root}
 use Rattle.brl_tool.specs.Acting.{AreActing}
 use Rattle.brl_tool.specs.Cutting.{Cuts, new_file_view}
@@ -88,8 +89,8 @@ Answers (question.Check path cert accept option) gives same outcome =
     ChecksAll gives path.now cert.now (option_copied accept) option outcome
 Answers (question.Search path out limit accept option) gives same outcome =
     Searches gives same path.now out.now (option_copied accept) limit option outcome
-Answers (question.Clashes path limit first option pairs) gives same outcome =
-    Diagnoses option gives same path.now limit first pairs outcome
+Answers (question.Clashes path limit first key columns option pairs) gives same outcome =
+    Diagnoses option gives same path.now limit (form_by columns first key) pairs outcome
 
 -- ---- What the status says of a question
 
@@ -139,11 +140,11 @@ pub record WritesList (before after : World) (path : List ℕ) (alphabet : Alpha
   pub lines_are : AreLinesOf before.gives path lines
   pub passes : PassesAll lines
   pub limit : ℕ
-  pub first : ℕ
+  pub form : ListForm
   pub baseline : Option (List ℕ)
   pub read : IsBaseline before.gives (option_copied pairs.accept) baseline
   pub answer : Answer
-  pub is : IsDiagnosis alphabet (table_of lines) lines limit first baseline pairs answer
+  pub is : IsDiagnosis alphabet (table_of lines) lines limit form baseline pairs answer
   pub accepted_are : accepted ≡ is.accepted
   pub whole : IsTrue (are_whole is.left)
   pub prints : Prints before after (string_bytes answer.text)
@@ -262,7 +263,7 @@ abbrev pub MeansDone : Question → World → World → Type 0
 MeansDone (question.Check path cert accept option) before after = ReportsAcceptance before after path.now (option_copied accept) option
 MeansDone (question.Search path out limit accept option) before after =
     ReportsCertificate before after path.now out.now (option_copied accept) option
-MeansDone (question.Clashes path limit first option pairs) before after =
+MeansDone (question.Clashes path limit first key columns option pairs) before after =
     ReportsNoOther before after path.now option pairs
 MeansDone (question.Unused path limit option) before after = ReportsNoUnused before after path.now option
 MeansDone (question.Cut path dir rewrite only) before after = WritesTable before after path.now dir.now × NoneActs only before.gives path.now dir.now rewrite
@@ -275,7 +276,7 @@ abbrev pub MeansRefuted : Question → World → World → Type 0
 MeansRefuted (question.Clash path left right options) before after = ReportsClash before after
 MeansRefuted (question.Check path cert accept option) before after = ReportsRefusal before after
 MeansRefuted (question.Search path out limit accept option) before after = ReportsClash before after
-MeansRefuted (question.Clashes path limit first option pairs) before after =
+MeansRefuted (question.Clashes path limit first key columns option pairs) before after =
     ReportsOther before after path.now option pairs
 MeansRefuted (question.Unused path limit option) before after = ReportsUnused before after
 MeansRefuted (question.Survey paths brief only) before after = ReportsSuspect only before after
@@ -292,14 +293,14 @@ KeepsFilesBut (Some path) before after = OthersStay before.gives after.gives pat
 abbrev pub KeepsFilesUnlessWritten : Question → World → World → Type 0
 KeepsFilesUnlessWritten (question.Search path out limit accept option) before after = Unit {0}
 KeepsFilesUnlessWritten (question.Cut path dir rewrite only) before after = Unit {0}
-KeepsFilesUnlessWritten (question.Clashes path limit first option pairs) before after = KeepsFilesBut (written_path pairs) before after
+KeepsFilesUnlessWritten (question.Clashes path limit first key columns option pairs) before after = KeepsFilesBut (written_path pairs) before after
 KeepsFilesUnlessWritten asked before after = KeepsFiles before after
 
 -- no file changes where something was refuted, but the one that is written with a list of clashes,
 -- and the new files of a cut
 abbrev pub KeepsFilesRefuted : Question → World → World → Type 0
 KeepsFilesRefuted (question.Cut path dir rewrite only) before after = WritesTable before after path.now dir.now
-KeepsFilesRefuted (question.Clashes path limit first option pairs) before after = KeepsFilesBut (written_path pairs) before after
+KeepsFilesRefuted (question.Clashes path limit first key columns option pairs) before after = KeepsFilesBut (written_path pairs) before after
 KeepsFilesRefuted asked before after = KeepsFiles before after
 
 -- a question was asked: its answer was delivered, and the status means what it says

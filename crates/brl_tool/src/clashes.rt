@@ -17,7 +17,8 @@ use crate::notices::write_if_without_characters;
 use brl_accepted::StaleLines;
 use brl_answers::{Answer, Files, RunFault, Status};
 use brl_clashes::{
-    Extent, ListOutcome, Section, Taken, list_sections, outcome_of, sections_text, without_accepted,
+    Extent, ListForm, ListOutcome, Section, Taken, list_sections, outcome_of, sections_text,
+    without_accepted,
 };
 use brl_cli::{AlphabetOption, PairFiles};
 use brl_lines::{Line, load};
@@ -28,13 +29,13 @@ use std::alloc::{AllocError, Global};
 use std::io::Write;
 
 /// What a list of clashes is asked for: the path of the table's file, how many states, pairs and
-/// pairs of rules a section may find, how many clashes of it are shown, where 0 means all, the
-/// option of the characters of which texts are made, and the files of pairs of rules.
+/// pairs of rules a section may find, in which form it is shown, the option of the characters of
+/// which texts are made, and the files of pairs of rules.
 #[derive(Clone, Copy)]
 pub struct ListedClashes<'a> {
     pub table: &'a str,
     pub limit: u32,
-    pub first: u32,
+    pub form: ListForm<'a>,
     pub option: AlphabetOption<'a>,
     pub pairs: PairFiles<'a>,
 }
@@ -44,7 +45,7 @@ pub struct ListedClashes<'a> {
 #[derive(Clone, Copy)]
 struct ListRequest<'a> {
     limit: u32,
-    first: u32,
+    form: ListForm<'a>,
     alphabet: &'a Alphabet,
     left_out: &'a LeftOut,
     pairs: PairFiles<'a>,
@@ -63,7 +64,7 @@ pub fn list_clashes_by_words<F: Files, E: Write + Progress>(
     asked: ListedClashes<'_>,
     err: &mut E,
 ) -> Result<Answer, RunFault>
-    ensures diagnoses { Diagnoses asked.entry.option (F.gives files.old) F.same_file asked.entry.table.now asked.entry.limit asked.entry.first
+    ensures diagnoses { Diagnoses asked.entry.option (F.gives files.old) F.same_file asked.entry.table.now asked.entry.limit asked.entry.form
         asked.entry.pairs result }
     ensures count { CountsFailure (F.faults files.old) (F.faults files.new) (load_outcome result) }
     ensures same { F.gives files.new ≡ F.gives files.old }
@@ -75,7 +76,7 @@ pub fn list_clashes_by_words<F: Files, E: Write + Progress>(
     let left_out = alphabet.left_out(alloc, &loaded.table)?;
     let request = ListRequest {
         limit: asked.limit,
-        first: asked.first,
+        form: asked.form,
         alphabet: &alphabet,
         left_out: &left_out,
         pairs: asked.pairs,
@@ -94,7 +95,7 @@ fn list_clashes<F: Files, E: Write + Progress>(
 ) -> Result<Answer, RunFault>
     requires { request.left_out.now ≡ left_out_by loaded.now.table (alphabet_view request.alphabet.now) }
     ensures diagnoses { ByBaseline (F.gives files.old) (option_copied request.entry.pairs.accept)
-        (λ baseline. UnlessMemory (IsDiagnosis (alphabet_view request.entry.alphabet.now) loaded.now.table loaded.now.files.lines request.entry.limit request.entry.first
+        (λ baseline. UnlessMemory (IsDiagnosis (alphabet_view request.entry.alphabet.now) loaded.now.table loaded.now.files.lines request.entry.limit request.entry.form
         baseline request.entry.pairs)) result }
     ensures count { CountsFailure (F.faults files.old) (F.faults files.new) (load_outcome result) }
     ensures same { F.gives files.new ≡ F.gives files.old }
@@ -120,7 +121,7 @@ fn diagnosis<E: Write + Progress>(
     err: &mut E,
 ) -> Result<Answer, AllocError>
     requires { request.left_out.now ≡ left_out_by loaded.now.table (alphabet_view request.alphabet.now) }
-    ensures { IfOk result (IsDiagnosis (alphabet_view request.entry.alphabet.now) loaded.now.table loaded.now.files.lines request.entry.limit request.entry.first
+    ensures { IfOk result (IsDiagnosis (alphabet_view request.entry.alphabet.now) loaded.now.table loaded.now.files.lines request.entry.limit request.entry.form
         (option_map (λ file. file.text.now) baseline.entry) request.entry.pairs) }
 {
     let table = &loaded.table;
@@ -156,7 +157,7 @@ fn answer_beside(
     requires sections { AreSections table.now (left_out_by table.now (alphabet_view request.alphabet.now)) request.limit sections.items }
     requires excused { AreExcused (option_map (λ file. file.text.now) baseline) request.pairs.prune table.now (map line_view lines.now) sections.items exempt.now.pairs.items exempt.now.taken }
     requires kept { string_bytes exempt.now.kept ≡ pruned_text (option_map (λ file. file.text.now) baseline) table.now (map line_view lines.now) sections.items }
-    ensures { IfOk result (IsDiagnosis (alphabet_view request.entry.alphabet.now) table.now (map line_view lines.now) request.entry.limit request.entry.first
+    ensures { IfOk result (IsDiagnosis (alphabet_view request.entry.alphabet.now) table.now (map line_view lines.now) request.entry.limit request.entry.form
         (option_map (λ file. file.text.now) baseline.entry) request.entry.pairs) }
 {
     let left = without_accepted(alloc, exempt.pairs.as_slice(), sections)?;
@@ -165,7 +166,7 @@ fn answer_beside(
     let shown = Extent {
         alphabet: request.alphabet,
         left_out: request.left_out,
-        first: request.first as usize,
+        form: request.form,
         accepted: exempt.taken,
     };
     let text = sections_text(alloc, table, lines, shown, left)?;

@@ -1,6 +1,7 @@
 //! The program over any files and streams.
 ghost use Rattle.std.specs.Prelude.{◌≡◌};
 ghost use Rattle.brl_answers.specs.Delivery.{world};
+ghost use Rattle.brl_tool.specs.Diagnosing.{form_by};
 ghost use Rattle.brl_tool.specs.Running.{Answers, Asks, IsStatus, MayGainFiles, Performs, Replies, ReportsOne, Runs, Translates};
 
 use crate::check::{CheckedFiles, check_by_words};
@@ -17,6 +18,7 @@ use crate::translate::{Translation, translate_by_file};
 use crate::unused::list_unused_by_words;
 use crate::{Files, Input, Output};
 use brl_answers::{Answer, RunFault, Status, deliver};
+use brl_clashes::ListForm;
 use brl_cli::{NotATask, Question, Task, Words, Work};
 use brl_failure::Failure;
 use brl_progress::Progress;
@@ -252,18 +254,37 @@ fn answer<F: Files, E: Write + Progress>(
             table,
             limit,
             first,
+            key,
+            columns,
             alphabet,
             pairs,
         } => {
             let asked = ListedClashes {
                 table,
                 limit,
-                first,
+                form: list_form(first, key, columns),
                 option: alphabet,
                 pairs,
             };
             list_clashes_by_words(alloc, files, asked, err)
         }
+    }
+}
+
+/// The form in which pairs of rules are listed: as columns where these are asked for; else by their
+/// kinds, unless a number of them or the key of one kind is given.
+fn list_form<'a>(first: Option<u32>, key: Option<&'a str>, columns: bool) -> ListForm<'a>
+    ensures { result ≡ form_by columns first key.entry }
+{
+    if columns {
+        return ListForm::Columns { key };
+    }
+    match (first, key) {
+        (None, None) => ListForm::Screen,
+        (first, key) => ListForm::Pairs {
+            first: first.unwrap_or(0) as usize,
+            key,
+        },
     }
 }
 

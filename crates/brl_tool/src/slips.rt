@@ -34,7 +34,7 @@ fn list_slips(alloc: Global, loaded: &Loaded, columns: bool) -> Result<Answer, A
     let text = if columns {
         slips_columns(alloc, &lexicon, lines.as_slice(), &findings)?
     } else {
-        slips_text(alloc, &lexicon, lines.as_slice(), &findings)?
+        slips_text(alloc, &lexicon, lines.as_slice(), &findings, usize::MAX)?
     };
     Ok(Answer::new(status_of(&findings), text))
 }

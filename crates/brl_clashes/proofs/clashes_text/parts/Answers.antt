@@ -11,8 +11,8 @@ use Rattle.brl_lines.specs.Views.{line_view}
 use Rattle.brl_clashes.proofs.clashes_text.parts.Goals as goal
 
 -- the texts of the next section clash
-pub section_text-requires-clause-clashes : goal.section_text-requires-clause-clashes
-section_text-requires-clause-clashes c =
+pub section_text-requires : goal.section_text-requires
+section_text-requires c =
     let sections = c.args.sections.items in
     let yielded = c.loop-section.yielded in
     let s = c.in-Some.section in
@@ -26,12 +26,14 @@ loop-section-preserved c =
     let s = c.in-Some.section in
     let t = c.args.table.now in
     let lines = map line_view c.args.lines.now in
+    let firsts = c.args.firsts.now in
+    let form = c.args.shown.form in
+    let taken = c.args.shown.taken in
     let before = c.loop-section.invariant.0 in
-    let written = c.in_ok-push_str.ensures.bytes ∙ ap (λ (part : List ℕ). string_bytes c.loop-section.text ++ part) c.as_str.ensures.value in (
+    let written = c.in_ok-push_str.ensures.bytes ∙ ap (λ (part : List ℕ). string_bytes c.loop-section.text ++ part) c.as_str.ensures.value in
+    let part : IsSectionText t lines firsts form taken (fold listed_after [] yielded) s (string_bytes c.in_ok-part.part) =
+    subst (λ (ls : List (ℕ × ℕ)). IsSectionText t lines firsts form taken ls s (string_bytes c.in_ok-part.part)) before c.in_ok-part.ensures.text in (
       c.in_ok-part.ensures.listed ∙ ap (λ (ls : List (ℕ × ℕ)). listed_after ls s) before ∙ sym (fold-append listed_after [] yielded (s ∷ [])),
-      (λ characters are.
-          let part : IsSectionText t lines characters c.args.shown.taken c.args.shown.first (fold listed_after [] yielded) s (string_bytes c.in_ok-part.part) =
-          subst (λ (ls : List (ℕ × ℕ)). IsSectionText t lines characters c.args.shown.taken c.args.shown.first ls s (string_bytes c.in_ok-part.part)) before (c.in_ok-part.ensures.text characters are) in
-          subst (AreSectionTexts t lines characters c.args.shown.taken c.args.shown.first [] (yielded ++ s ∷ [])) (sym written)
-          (one_more_section t lines characters c.args.shown.taken c.args.shown.first [] yielded s (string_bytes c.loop-section.text) (string_bytes c.in_ok-part.part) (c.loop-section.invariant.1 characters are) part)),
+      subst (AreSectionTexts t lines firsts form taken [] (yielded ++ s ∷ [])) (sym written)
+          (one_more_section t lines firsts form taken [] yielded s (string_bytes c.loop-section.text) (string_bytes c.in_ok-part.part) c.loop-section.invariant.1 part),
     )

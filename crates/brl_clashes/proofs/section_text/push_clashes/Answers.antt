@@ -1,5 +1,5 @@
 use Rattle.std.proofs.Common.{◌≡◌, ◌∙◌, ◌-◌, ◌++◌, ℕ, List, ap, append_assoc, codes, flat_map, length, map, string_bytes, sym}
-use Rattle.brl_clashes.specs.SectionText.{first_ones, number_line, rule_clash_line}
+use Rattle.brl_clashes.specs.SectionText.{first_of, first_ones, number_line, others_words, rule_clash_line}
 use Rattle.brl_lines.specs.Views.{line_view}
 use Rattle.brl_clashes.proofs.section_text.push_clashes.Goals as goal
 
@@ -10,11 +10,14 @@ joined old f a b first second third first_is second_is third_is =
 
 pub returns : goal.returns
 returns c =
-    let line = rule_clash_line c.args.table.now (map line_view c.args.lines.now) in
+    let t = c.args.listing.table.now in
+    let form = c.args.form in
+    let line = rule_clash_line t (map line_view c.args.listing.lines.now) in
     let shown = c.args.shown.now in
-    let begun = first_ones c.args.first shown in
-    let lines_are = c.in_ok-push_lines.ensures ∙ ap (λ cs. string_bytes c.args.text.now ++ flat_map line cs) c.first_ones-begun.ensures in
-    let more_are = c.in_ok-push_number.ensures ∙ ap (λ n. string_bytes c.push_lines.new.text ++ number_line n (codes " more")) (c.saturating_sub.ensures ∙ ap (λ cs. length shown - length cs) c.first_ones-begun.ensures) in
-    let folded_are = c.in_ok-push_number-2.ensures ∙ ap (λ n. string_bytes c.push_number.new.text ++ number_line n (codes " of other characters of the sets")) c.saturating_sub-folded.ensures in
-    joined (string_bytes c.args.text.now) (flat_map line begun) (number_line (length shown - length begun) (codes " more")) (number_line (c.args.count - length shown) (codes " of other characters of the sets"))
-    (string_bytes c.push_lines.new.text) (string_bytes c.push_number.new.text) (string_bytes c.push_number-2.new.text) lines_are more_are folded_are
+    let begun = first_ones (first_of form) shown in
+    let begun_is = c.first_ones-begun.ensures ∙ ap (λ n. first_ones n shown) c.first.ensures in
+    let lines_are = c.in_ok-push_lines.ensures ∙ ap (λ cs. string_bytes c.args.text.now ++ flat_map line cs) begun_is in
+    let more_are = c.in_ok-push_number.ensures ∙ ap (λ n. string_bytes c.push_lines.new.text ++ number_line n (codes " more")) (c.saturating_sub.ensures ∙ ap (λ cs. length shown - length cs) begun_is) in
+    let others_are = c.in_ok-push_number-2.ensures ∙ (λ j. string_bytes c.push_number.new.text ++ number_line (c.saturating_sub-others.ensures j) (c.others.ensures j)) in
+    joined (string_bytes c.args.text.now) (flat_map line begun) (number_line (length shown - length begun) (codes " more")) (number_line (c.args.count - length shown) (others_words form))
+    (string_bytes c.push_lines.new.text) (string_bytes c.push_number.new.text) (string_bytes c.push_number-2.new.text) lines_are more_are others_are

@@ -1,7 +1,7 @@
 //! The program.
 use brl_accepted::Counts;
 use brl_clashes::{
-    Extent, Kind, ListOutcome, Section, Taken, are_whole, list_sections, outcome_of,
+    Extent, Kind, ListForm, ListOutcome, Section, Taken, are_whole, list_sections, outcome_of,
     pairs_of_sections, sections_text, without_accepted,
 };
 use brl_failure::Failure;
@@ -123,7 +123,10 @@ fn clashes_text(alloc: Global, table: &Table, accepts: bool) -> Result<String, A
     let shown = Extent {
         alphabet: &alphabet,
         left_out: &left_out,
-        first: 0,
+        form: ListForm::Pairs {
+            first: 0,
+            key: None,
+        },
         accepted: accepts.then_some(Taken {
             listed: 1,
             counts: Counts { pairs: 1, sets: 0 },

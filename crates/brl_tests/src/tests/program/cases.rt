@@ -338,6 +338,19 @@ t.ctb: letter a 1; punctuation . 1|brl,clashes,t.ctb||small letters: 0 pairs of 
 t.ctb: letter a 1; punctuation . 1|brl,clashes,t.ctb,--without,.||small letters: 0 pairs of rules diverge, and no others; unambiguous: 2 states, 0 pairs; without: .||0
 t.ctb: digit 1 1; letter a 1|brl,clashes,t.ctb||small letters: 0 pairs of rules diverge, and no others; with digits: 1 pair of rules diverges, and no others;   1 / a  1  t.ctb:1 digit 1  t.ctb:2 letter a; 1 pair of rules diverges, and no others||1
 t.ctb: uplow Aa 1; letter b 12; letter x 1-12; sign + 346; math = 346|brl,clashes,t.ctb||small letters: 1 pair of rules diverges, and no others;   x / ab  1-12  t.ctb:3 letter x  t.ctb:1 uplow a; with capitals: 2 more pairs of rules diverge, and no others;   A / a  1  t.ctb:1 uplow A  t.ctb:1 uplow a;   x / Ab  1-12  t.ctb:3 letter x  t.ctb:1 uplow A; all characters: 1 more pair of rules diverges, and no others;   + / =  346  t.ctb:4 sign +  t.ctb:5 math =; 4 pairs of rules diverge, and no others||1
+t.ctb: letter a 1; letter b 12; word aa 123; word ab 123|brl,clashes,t.ctb,--kind,alike||small letters: 1 pair of rules diverges, and no others;   aa / ab  123  t.ctb:3 word aa  t.ctb:4 word ab; 1 pair of rules diverges, and no others||1
+t.ctb: letter a 1; letter b 12; letter c 14; word ab 123; word cab 123|brl,clashes,t.ctb,--kind,rules||small letters: 1 pair of rules diverges, and no others;   cab / ab  123  t.ctb:5 word cab  t.ctb:4 word ab; 1 pair of rules diverges, and no others||1
+t.ctb: letter a 1; letter b 12; letter c 256; always ab 3-256; always ba 3|brl,clashes,t.ctb,--kind,begins||small letters: 1 pair of rules diverges, and no others;   ab / bac  3-256  t.ctb:4 always ab  t.ctb:5 always ba; 1 pair of rules diverges, and no others||1
+t.ctb: letter a 1; letter x 1; always ax 2|brl,clashes,t.ctb,--kind,cells||small letters: 1 pair of rules diverges, and no others;   a / x  1  t.ctb:1 letter a  t.ctb:2 letter x; 1 pair of rules diverges, and no others||1
+t.ctb: uplow Aa 1|brl,clashes,t.ctb,--kind,case||small letters: 0 pairs of rules diverge, and no others; with capitals: 1 pair of rules diverges, and no others;   A / a  1  t.ctb:1 uplow A  t.ctb:1 uplow a; 1 pair of rules diverges, and no others||1
+t.ctb: uplow Aa 1; uplow Bb 12; letter c 1-12|brl,clashes,t.ctb,--kind,again||small letters: 1 pair of rules diverges, and no others;   1 of other kinds; with capitals: 3 more pairs of rules diverge, and no others;   c / AB  1-12  t.ctb:3 letter c  t.ctb:1 uplow A;   2 of other kinds; 4 pairs of rules diverge, and no others||1
+t.ctb: letter a 1; letter b 12; letter x 1-12|brl,clashes,t.ctb,--kind,several||small letters: 1 pair of rules diverges, and no others;   x / ab  1-12  t.ctb:3 letter x  t.ctb:1 letter a; 1 pair of rules diverges, and no others||1
+t.ctb: letter a 1; letter b 12; word ab 1|brl,clashes,t.ctb,--kind,word||small letters: 1 pair of rules diverges, and no others;   ab / a  1  t.ctb:3 word ab  t.ctb:1 letter a; 1 pair of rules diverges, and no others||1
+t.ctb: litdigit 1 1; letter a 1; numsign 3456|brl,clashes,t.ctb,--kind,asdigit||small letters: 0 pairs of rules diverge, and no others; with digits: 1 pair of rules diverges, and no others;   11 / 1a  3456-1-1  t.ctb:1 litdigit 1  t.ctb:2 letter a; 1 pair of rules diverges, and no others||1
+t.ctb: litdigit 1 1; letter a 1; letter b 3456; numsign 3456|brl,clashes,t.ctb,--kind,number||small letters: 0 pairs of rules diverge, and no others; with digits: 2 pairs of rules diverge, and no others;   1 / ba  3456-1  t.ctb:1 litdigit 1  t.ctb:3 letter b;   1 of other kinds; 2 pairs of rules diverge, and no others||1
+t.ctb: letter a 1; sign \\x00a0 1|brl,clashes,t.ctb,--kind,unseen||small letters: 0 pairs of rules diverge, and no others; all characters: 1 pair of rules diverges, and no others;   a / \\x00a0  1  t.ctb:1 letter a  t.ctb:2 sign \\x00a0; 1 pair of rules diverges, and no others||1
+t.ctb: letter a 1; sign \\x2801 1|brl,clashes,t.ctb,--kind,braille||small letters: 0 pairs of rules diverge, and no others; all characters: 1 pair of rules diverges, and no others;   a / ⠁  1  t.ctb:1 letter a  t.ctb:2 sign ⠁; 1 pair of rules diverges, and no others||1
+t.ctb: letter a 1; letter b 12; word aa 123; word ab 123|brl,clashes,t.ctb,--tsv||section\tkind\tleft\tright\tcells\tfile\tline\trule\tfile2\tline2\trule2; small letters\talike\taa\tab\t123\tt.ctb\t3\tword aa 123\tt.ctb\t4\tword ab 123||1
 t.ctb: letter a 1; letter b 1; letter c 1; always ab 2; always bc 2|brl,clashes,t.ctb,--first,1||small letters: 4 pairs of rules diverge, and no others;   a / b  1  t.ctb:1 letter a  t.ctb:2 letter b;   3 more; 4 pairs of rules diverge, and no others||1
 t.ctb: letter a 1; letter b 12; letter x 1-12|brl,clashes,t.ctb,--limit,0||small letters: 0 pairs of rules diverge, and maybe others; limit: 1 states, 0 pairs; 0 pairs of rules diverge, and maybe others||3
 t.ctb: letter a 1|brl,clashes,t.ctb,--without,a||small letters: 0 pairs of rules diverge, and no others; unambiguous: 1 states, 0 pairs; without: a||0
@@ -539,6 +552,8 @@ brl,clashes,--help|--accept <FILE>||0
 brl,clashes,--help|--write <FILE>||0
 brl,clashes||<TABLE>|2
 brl,clashes,t.ctb,o||unexpected argument 'o'|2
+brl,clashes,t.ctb,--kind,alikes||invalid value 'alikes' for '--kind <KEY>'|2
+brl,clashes,t.ctb,--tsv,--first,1||the argument '--tsv' cannot be used with '--first <N>'|2
 brl,clashes,t.ctb,--first,ten||invalid value 'ten' for '--first <N>'|2
 brl,cut,--help|brl cut far.ctb near||0
 brl,cut,--help|--rewrite||0
