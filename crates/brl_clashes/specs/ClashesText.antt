@@ -119,15 +119,15 @@ IsTop Screen top = Unit {0}
 IsTop (Pairs first key) top = top ≡ []
 IsTop (Columns key) top = top ≡ column_names
 
--- the last lines of a list in a form: this verdict, and of which characters texts are made; columns
--- have none
+-- the last lines of a list in a form: the verdict, and the line that names the characters of texts;
+-- columns have none
 abbrev pub last_lines : ListForm → AlphabetView → List ℕ → List ℕ
 last_lines (Columns key) alphabet verdict = []
 last_lines form alphabet verdict = with_alphabet_line alphabet verdict
 
 -- The text of a list of clashes: what comes before it, the sets of characters, the sections, and
--- the verdict, with the line that says of which characters texts are made. Where a file accepts
--- pairs, they are left out of the sections, and it says how much the file excuses.
+-- the verdict with the line that names the characters of texts. Where a file accepts pairs, they
+-- are left out of the sections, and the verdict says how much the file excuses.
 abbrev pub IsClashesText : TableView → List LineView → AlphabetView → ListForm → Option Taken → List Section → List ℕ → Type 0
 IsClashesText t lines alphabet form accepted sections text = let plain = plain t (left_out_by t alphabet) in
     (top parts : List ℕ) × IsTop form top × AreSectionTexts t lines (firsts_of t plain) form (are_taken accepted) [] sections parts

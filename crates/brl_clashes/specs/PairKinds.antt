@@ -1,5 +1,5 @@
--- The kinds of the pairs of rules that a list of clashes has. A pair is of the first kind of which
--- the test holds. The project's own choice.
+-- The kinds of pairs of rules in a list of clashes. A pair has the first kind whose test holds. The
+-- project's own choice.
 use Rattle.std.specs.Prelude.{ℕ, Bool, false, ◌&&◌, ◌||◌, ◌==◌, if◌then◌else◌, List, Option, Some, None, codes, length, nat_eq, nat_le, nat_lt, not, slice_get, zip}
 use Rattle.std.specs.Cmp.Lexicographic.{pointwise}
 use Rattle.std.specs.List.{count_by, list_all, list_any}
@@ -39,7 +39,7 @@ defines_unseen t number = option_map_or is_unseen (own_character t number) false
 unfoldable pub has_unseen : TableView → RuleClash → Bool
 has_unseen t x = has_one is_invisible x || (defines_unseen t x.lesser || defines_unseen t x.greater)
 
--- whether the texts of a clash have as many characters, and this holds of each two at one place
+-- whether the texts of a clash have the same length, and this holds of the characters at each place
 abbrev pub match_by : (ℕ × ℕ → Bool) → RuleClash → Bool
 match_by test x = (length x.clash.left == length x.clash.right) && list_all test (zip x.clash.left x.clash.right)
 
@@ -77,7 +77,7 @@ is_letter t c = share (classes_of t c) letter
 abbrev pub are_letters_or_same : TableView → ℕ × ℕ → Bool
 are_letters_or_same t pair = (pair.0 == pair.1) || (is_letter t pair.0 && is_letter t pair.1)
 
--- whether the texts of a clash have as many characters, of which one or two differ, all letters
+-- whether the texts of a clash have the same length and differ in one or two letters alone
 unfoldable pub differ_in_letters : TableView → RuleClash → Bool
 differ_in_letters t x =
     nat_le (differing x.clash.left x.clash.right) 2 && match_by (are_letters_or_same t) x

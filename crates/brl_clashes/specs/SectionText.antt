@@ -88,7 +88,7 @@ clash_lines t lines form count shown =
     flat_map (rule_clash_line t lines) (first_ones (first_of form) shown) ++ number_line (length shown - length (first_ones (first_of form) shown)) (codes " more")
     ++ number_line (count - length shown) (others_words form)
 
--- the lines of these clashes in order, of which this many are new
+-- the lines of these clashes in order, in a section with this many new clashes
 abbrev pub shown_lines : TableView → List LineView → FirstsView → List (ℕ × ℕ) → ListForm → Kind → ℕ → List RuleClash → List ℕ
 shown_lines t lines firsts listed (Columns key) kind count shown = flat_map (column_line t lines firsts listed kind) shown
 shown_lines t lines firsts listed form kind count shown = clash_lines t lines form count shown

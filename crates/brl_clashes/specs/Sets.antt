@@ -80,7 +80,7 @@ firsts_of t characters = record {
   small = map (λ c. first_number t characters (fold_of t c)) (table_characters t);
 }
 
--- the character of which the own definition has a number
+-- the character whose own definition has a number
 abbrev pub own_character : TableView → ℕ → Option ℕ
 own_character t number = if nat_le (length t.rules) number then slice_get (table_characters t) (number - length t.rules) else None
 

@@ -39,7 +39,7 @@ pub struct Extent<'a> {
 /// by their kinds, the rules of the table that look like slips; the sets of characters that the
 /// table treats as one, where the first of a set represents the others; of each section the pairs
 /// of rules that no earlier one lists, in a form; and the verdict with its counts, how much a file
-/// excuses, and of which characters texts are made.
+/// excuses, and the line that names the characters of texts.
 ///
 /// Every line ends with LF. `AllocError` if memory runs out.
 pub fn sections_text(
@@ -91,8 +91,8 @@ fn top_text(alloc: Global, form: ListForm<'_>, lines: &[Line<'_>]) -> Result<Str
     }
 }
 
-/// The last lines of a list in a form: its verdict, and of which characters texts are made. Columns
-/// have none.
+/// The last lines of a list in a form: its verdict, and the line that names the characters of
+/// texts. Columns have none.
 fn last_lines(
     alloc: Global,
     form: ListForm<'_>,

@@ -173,7 +173,7 @@ fn match_in_cells(table: &Table, clash: &RuleClash) -> bool
 }
 
 /// Whether a character of a table is a letter.
-pub fn is_letter(table: &Table, character: char) -> bool
+fn is_letter(table: &Table, character: char) -> bool
     ensures { result ≡ is_letter_of table.now character }
 {
     match table.info(character) {
@@ -198,7 +198,7 @@ fn differ_in_letters_alone(table: &Table, left: &[char], right: &[char]) -> bool
         .all(|(c, d)| are_letters_or_same(table, *c, *d))
 }
 
-/// Whether the texts of a clash have as many characters, of which one or two differ, all letters.
+/// Whether the texts of a clash have the same length and differ in one or two letters alone.
 #[tactic(auto, unfolding(crate::specs::PairKinds::differ_in_letters))]
 fn differ_in_letters(table: &Table, clash: &RuleClash) -> bool
     ensures { result ≡ differ_in_some_letters table.now clash.now }

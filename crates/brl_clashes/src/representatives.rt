@@ -71,7 +71,7 @@ fn small_firsts(alloc: Global, table: &Table, characters: &[char]) -> Result<Vec
         .collect(alloc)
 }
 
-/// The character of which the own definition has a number.
+/// The character whose own definition has a number.
 pub fn own_character(table: &Table, number: u32) -> Option<char>
     ensures { result ≡ own_character_of table.now number }
 {
