@@ -334,6 +334,7 @@ are no other lines. The kinds, the first whose test holds:
 
 Characters with the same cells, classes and flags that are in no rule are listed
 as sets before the sections, and one of each set represents the others there.
+More than three sets are one line, unless --first or --kind is given.
 
 The last line says how many pairs of rules there are, and the exit status is 1;
 where there are none, the table is unambiguous, and the status is 0. Where a list
