@@ -32,7 +32,7 @@ pub record AreAlike (t : TableView) (s z : DuesState) : Type 0 where
   pub behind : (c : ℕ) (others : List ℕ) → context_after_all t (context_of s) (c ∷ others) ≡ context_after_all t (context_of z) (c ∷ others)
 
 module _ (t : TableView) (s z : DuesState) (alike : AreAlike t s z) where
-  same-step : (c : ℕ) (others : List ℕ) (f : CaseForm) (dues : List Due) → f.reads ≡ c ∷ others → step_of t s f dues ≡ step_of t z f dues
+  pub same-step : (c : ℕ) (others : List ℕ) (f : CaseForm) (dues : List Due) → f.reads ≡ c ∷ others → step_of t s f dues ≡ step_of t z f dues
   same-step c others f dues e =
       let behind = ap (context_after_all t (context_of s)) e ∙ alike.behind c others ∙ ap (context_after_all t (context_of z)) (sym e) in
       λ i. record { rule = f.number; reads = f.reads; cells = alike.signs f.run f.reads i ++ f.cells; next = state_in (behind i) dues }

@@ -79,18 +79,18 @@ tells false false false true = record { gap_is = refl; digit_is = refl; letter_i
 tells false false false false = record { gap_is = refl; digit_is = refl; letter_is = refl; mixed_is = refl; upper_is = refl }
 
 -- what the table asks is the same of both classes
-record AreAskedAlike (t : TableView) (p q : Class) : Type 0 where
-  same_gap : share p gap ≡ share q gap
-  same_digit : share p digit ≡ share q digit
-  same_letter : share p letter ≡ share q letter
-  same_mixed : share p gap_or_letter ≡ share q gap_or_letter
-  same_upper : (has_word_capitals t && is_capital p) ≡ (has_word_capitals t && is_capital q)
+pub record AreAskedAlike (t : TableView) (p q : Class) : Type 0 where
+  pub same_gap : share p gap ≡ share q gap
+  pub same_digit : share p digit ≡ share q digit
+  pub same_letter : share p letter ≡ share q letter
+  pub same_mixed : share p gap_or_letter ≡ share q gap_or_letter
+  pub same_upper : (has_word_capitals t && is_capital p) ≡ (has_word_capitals t && is_capital q)
 
 and-again : (w u : Bool) → (w && u) ≡ (w && (w && u))
 and-again true u = refl
 and-again false u = refl
 
-asked-alike : (t : TableView) (p : Class) → AreAskedAlike t p (asked t p)
+pub asked-alike : (t : TableView) (p : Class) → AreAskedAlike t p (asked t p)
 asked-alike t p =
     let told_are = tells (share p gap) (share p digit) (share p letter) (has_word_capitals t && is_capital p) in
     record {

@@ -42,7 +42,7 @@ step-itself x =
 
 -- ---- Among steps
 
-found-in : (x : Step DuesState) (steps : List (Step DuesState)) → list_any (is_same_step x) steps ≡ true → IsIn x steps
+pub found-in : (x : Step DuesState) (steps : List (Step DuesState)) → list_any (is_same_step x) steps ≡ true → IsIn x steps
 found-in x [] h = cc
 found-in x (y ∷ steps) h = at (is_same_step x y) refl h (found-in x steps)
   where
@@ -50,7 +50,7 @@ found-in x (y ∷ steps) h = at (is_same_step x y) refl h (found-in x steps)
     at true e k more = inl (same_steps x y e)
     at false e k more = inr (more k)
 
-in-found : (x : Step DuesState) (steps : List (Step DuesState)) → IsIn x steps → list_any (is_same_step x) steps ≡ true
+pub in-found : (x : Step DuesState) (steps : List (Step DuesState)) → IsIn x steps → list_any (is_same_step x) steps ≡ true
 in-found x [] h = absurd h
 in-found x (y ∷ steps) (inl e) = ap (λ b. b || list_any (is_same_step x) steps) (ap (is_same_step x) (sym e) ∙ step-itself x)
 in-found x (y ∷ steps) (inr h) = at (is_same_step x y) (in-found x steps h)

@@ -87,7 +87,7 @@ pub fn carry_bar(
 }
 
 /// What is left of a due after the characters `past`.
-fn carry(alloc: Global, table: &Table, past: &[char], due: &Due) -> Result<Carried, AllocError>
+pub fn carry(alloc: Global, table: &Table, past: &[char], due: &Due) -> Result<Carried, AllocError>
     ensures { IfOk result (λ carried. carried ≡ carried_past table.now past.now due.now) }
 {
     match due {

@@ -2,6 +2,7 @@
 ghost use Rattle.std.specs.Prelude.{◌≡◌, ℕ, [], ◌∷◌, ◌++◌, filter, All, IfOk, IsTrue, OnOk, if◌then◌else◌};
 ghost use Rattle.brl_rules.specs.TableView.{TableView};
 ghost use Rattle.brl_rules.specs.Text.{fold_of as fold};
+ghost use Rattle.brl_dues.specs.Contexts.{is_bar};
 ghost use Rattle.brl_dues.specs.Letters.{bars_from, first_of as first_due_of, lets_in as does_let_in, may_come as does_come, new_letter, new_letters};
 ghost use Rattle.brl_states.specs.Order.{is_proper, AreDues};
 
@@ -149,6 +150,15 @@ pub fn needs_of(dues: &[Due]) -> &[Due]
     ensures { (t : TableView) (c : ℕ) → does_come t result.now c ≡ does_come t dues.now c }
 {
     &dues[..dues.partition_point(|due| first_of(due) == 0)]
+}
+
+/// The bars of some dues, which come last.
+pub fn bars_of(dues: &[Due]) -> &[Due]
+    requires { AreDues dues.now }
+    ensures bars { result.now ≡ filter is_bar dues.now }
+    ensures proper { All (λ due. IsTrue (is_proper due)) result.now }
+{
+    &dues[dues.partition_point(|due| first_of(due) == 0)..]
 }
 
 /// Whether each of some dues allows a character to come next.

@@ -16,6 +16,7 @@
 mod above;
 mod carry;
 mod cased;
+mod context_laws;
 mod folds;
 mod laws;
 mod letter;
@@ -24,12 +25,14 @@ mod origin;
 mod parts;
 mod rules_above;
 mod runs;
+mod sharing;
 mod starts;
 mod step;
 mod steps;
 mod walk;
 
 pub use brl_states::{Due, DueList, DuesState};
+pub use context_laws::contexts_law;
 pub use laws::{dues_law, exact_law, finite_law, gathered_law, step_law};
 pub use machine::Dues;
 pub use parts::DuesPart;

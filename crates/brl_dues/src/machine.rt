@@ -7,8 +7,10 @@ ghost use Rattle.brl_dues.specs.Due.{met_by_space};
 use crate::cased::CasedTable;
 use crate::letter::{new_letter_of, new_letters_of};
 use crate::parts::{DuesPart, find_parts};
+use crate::sharing::{bar_at, base_of, gate_of, opens, past, with_dues};
 use crate::steps::{list_letter_steps, list_steps};
-use brl_pairs::{Machine, Parted, Step};
+use brl_cells::Chars;
+use brl_pairs::{Based, Machine, Parted, Past, Step};
 use brl_rules::{Class, Context, Table, choice_laws, holds, translation_laws};
 use brl_states::{Due, DueList, DuesState};
 use std::alloc::{AllocError, Global};
@@ -87,6 +89,56 @@ impl<'a> Parted for Dues<'a> {
         let dues = part.state.dues.as_slice();
         let letter = new_letter_of(alloc, self.table, part.character, dues);
         list_letter_steps(alloc, &table, &part.state, letter)
+    }
+}
+
+/// The base of a state has what steps ask of its context, and no dues. A gate has the classes of
+/// the first character, and needs open it.
+impl<'a> Based for Dues<'a> {
+    ghost use Rattle.brl_dues.specs.Sharing.{dues_sharing};
+
+    type More = DueList;
+
+    ghost sharing = { dues_sharing };
+
+    fn law(&self) {
+        self.table.law();
+    }
+
+    fn base(&self, alloc: Global, state: &DuesState) -> Result<Option<DuesState>, AllocError> {
+        Ok(Some(base_of(alloc, self.table, state)))
+    }
+
+    fn gate(&self, reads: &Chars) -> u8 {
+        gate_of(self.table, reads.as_slice())
+    }
+
+    fn opens(&self, state: &DuesState, gate: u8) -> bool {
+        opens(state, gate)
+    }
+
+    fn bar<'s>(&self, state: &'s DuesState, number: usize) -> Option<&'s Chars> {
+        bar_at(state.dues.as_slice(), number)
+    }
+
+    fn past(
+        &self,
+        alloc: Global,
+        state: &DuesState,
+        met: &[u32],
+        reads: &Chars,
+        next: &DuesState,
+    ) -> Result<Past<DueList>, AllocError> {
+        past(alloc, self.table, state, met, reads.as_slice(), next)
+    }
+
+    fn owing(
+        &self,
+        alloc: Global,
+        next: &DuesState,
+        more: &DueList,
+    ) -> Result<DuesState, AllocError> {
+        with_dues(alloc, next, more)
     }
 }
 

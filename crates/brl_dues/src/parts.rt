@@ -50,7 +50,7 @@ pub fn find_parts(
 }
 
 /// What steps ask of a context. States that differ in the rest share their parts.
-fn asked_of(table: &Table, here: Context) -> Context
+pub fn asked_of(table: &Table, here: Context) -> Context
     ensures { result ≡ asked_context table.now here }
 {
     Context {

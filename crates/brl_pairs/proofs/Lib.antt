@@ -21,3 +21,6 @@ pub mod Filtered
 mod RankLaws
 pub mod ByNumber
 pub mod SharedLaws
+pub mod OrderLaws
+pub mod Firsts
+pub mod BasedLaws

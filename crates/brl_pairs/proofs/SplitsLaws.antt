@@ -43,7 +43,7 @@ pub record HasComeTo (cells : List (List ℕ)) (sorted : List SortedEdge) (short
 equal_begins : (xs ys : List ℕ) → is_before xs ys ≡ false → is_before ys xs ≡ false → BeginsWith xs ys
 equal_begins xs ys h k = ([], same_cells xs ys h k ∙ sym (append-nil ys))
 
-begins_through : (xs ys zs : List ℕ) → BeginsWith xs ys → BeginsWith ys zs → BeginsWith xs zs
+pub begins_through : (xs ys zs : List ℕ) → BeginsWith xs ys → BeginsWith ys zs → BeginsWith xs zs
 begins_through xs ys zs a b = (b.0 ++ a.0, a.1 ∙ ap (λ (l : List ℕ). l ++ a.0) b.1 ∙ append_assoc zs b.0 a.0)
 
 module _ (cells : List (List ℕ)) (sorted : List SortedEdge) (ascending : AreAscending cells sorted) where

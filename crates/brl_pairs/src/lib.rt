@@ -15,10 +15,14 @@
 //!   looks up those that a lead can follow, and `earlier_splits` those with which an edge splits;
 //!   `unshared_splits` leaves out those of edges that are shared with another state. `by_number`
 //!   puts elements in the order of numbers without comparing them.
+//! - `Based` is a machine whose states share the steps of a base, but for some. An `Order` looks up
+//!   which: the sequences that begin a key, or begin with it.
 //!
 //! Room 2, any machine (docs/dev/ARCHITECTURE.md). The definitions begin in `specs/Runs.antt`.
 #![tactic(auto)]
 
+mod based;
+mod based_laws;
 mod body;
 mod edge;
 mod edge_laws;
@@ -31,14 +35,18 @@ mod lead;
 mod machine;
 mod members;
 mod number_pairs;
+mod order;
 mod parted;
 mod rule_pairs;
 mod seed;
+mod sequence;
 mod shared;
 mod sorted;
 mod splits;
 mod step;
 
+pub use based::{Based, Past};
+pub use based_laws::based_law;
 pub use body::Body;
 pub use edge::{Edge, ListedEdge};
 pub use edge_laws::{edges_law, unmatched_law};
@@ -55,9 +63,11 @@ pub use lead::{Advanced, advance};
 pub use machine::Machine;
 pub use members::Members;
 pub use number_pairs::{is_missing, is_there, is_there_swapped};
+pub use order::{Around, Order};
 pub use parted::Parted;
 pub use rule_pairs::RulePairs;
 pub use seed::{Seed, SeededHasher};
+pub use sequence::Sequence;
 pub use shared::{TwoPlaces, count_unshared, shared_with, unshared_splits};
 pub use sorted::{SortedEdge, as_u32, cells_at, cells_of, matches, sort_edges};
 pub use splits::{Splits, earlier_splits, splits_of};

@@ -1,7 +1,8 @@
 //! A machine that says nothing of parts.
 ghost use Rattle.std.specs.Prelude.{◌≡◌, []};
 
-use brl_pairs::{Machine, Parted, Step};
+use brl_cells::Chars;
+use brl_pairs::{Based, Machine, Parted, Past, Step};
 use std::alloc::{AllocError, Global};
 use std::marker::Model;
 
@@ -58,5 +59,52 @@ impl<'m, M: Machine> Parted for Whole<'m, M> {
 
     fn part_steps(&self, alloc: Global, _part: &bool) -> Result<Vec<Step<M::State>>, AllocError> {
         Ok(Vec::new(alloc))
+    }
+}
+
+/// It says of no state which base it has.
+impl<'m, M: Machine> Based for Whole<'m, M> {
+    ghost use Rattle.brl_pairs.specs.Based.{nothing_shared};
+
+    type More = bool;
+
+    ghost sharing = { λ w. nothing_shared (M.behaviour w.machine).start };
+
+    fn law(&self) {}
+
+    fn base(&self, _alloc: Global, _state: &M::State) -> Result<Option<M::State>, AllocError> {
+        Ok(None)
+    }
+
+    fn gate(&self, _reads: &Chars) -> u8 {
+        0
+    }
+
+    fn opens(&self, _state: &M::State, _gate: u8) -> bool {
+        true
+    }
+
+    fn bar<'s>(&self, _state: &'s M::State, _number: usize) -> Option<&'s Chars> {
+        None
+    }
+
+    fn past(
+        &self,
+        _alloc: Global,
+        _state: &M::State,
+        _met: &[u32],
+        _reads: &Chars,
+        _next: &M::State,
+    ) -> Result<Past<bool>, AllocError> {
+        Ok(Past::Same)
+    }
+
+    fn owing(
+        &self,
+        _alloc: Global,
+        _next: &M::State,
+        _more: &bool,
+    ) -> Result<M::State, AllocError> {
+        Ok(self.machine.start())
     }
 }

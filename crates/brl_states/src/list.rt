@@ -9,6 +9,7 @@ ghost use Rattle.brl_states.specs.Order.{AreDues, in_order as in_order_of, is_pr
 
 use crate::Due;
 use crate::due::{compare_dues, copy_dues};
+use brl_pairs::Key;
 use std::alloc::{AllocError, Global};
 use std::hash::{Hash, Hasher};
 use std::marker::Model;
@@ -97,6 +98,12 @@ impl PartialEq for DueList {
 
 impl Eq for DueList {
     ghost laws = { lists_equiv dues_equiv };
+}
+
+impl Key for DueList {
+    ghost use Rattle.brl_states.specs.SameDues.{same_lists};
+
+    ghost same = { same_lists };
 }
 
 impl Hash for DueList {

@@ -6,7 +6,7 @@ ghost use Rattle.brl_window.specs.Width.{start_moves};
 
 use crate::steps::{find_steps, longest_rule, sort_steps};
 use brl_cells::Chars;
-use brl_pairs::{Machine, Parted, Step};
+use brl_pairs::{Based, Machine, Parted, Past, Step};
 use brl_rules::{Context, Table, choice_laws, translation_laws};
 use brl_states::WindowState;
 use std::alloc::{AllocError, Global};
@@ -120,5 +120,57 @@ impl<'a> Parted for Window<'a> {
         _part: &bool,
     ) -> Result<Vec<Step<WindowState>>, AllocError> {
         Ok(Vec::new(alloc))
+    }
+}
+
+/// It says of no state which base it has.
+impl<'a> Based for Window<'a> {
+    ghost use Rattle.brl_pairs.specs.Based.{nothing_shared};
+    ghost use Rattle.brl_window.specs.Windows.{window_machine};
+
+    type More = bool;
+
+    ghost sharing = { λ w. nothing_shared (window_machine w).start };
+
+    fn law(&self) {}
+
+    fn base(
+        &self,
+        _alloc: Global,
+        _state: &WindowState,
+    ) -> Result<Option<WindowState>, AllocError> {
+        Ok(None)
+    }
+
+    fn gate(&self, _reads: &Chars) -> u8 {
+        0
+    }
+
+    fn opens(&self, _state: &WindowState, _gate: u8) -> bool {
+        true
+    }
+
+    fn bar<'s>(&self, _state: &'s WindowState, _number: usize) -> Option<&'s Chars> {
+        None
+    }
+
+    fn past(
+        &self,
+        _alloc: Global,
+        _state: &WindowState,
+        _met: &[u32],
+        _reads: &Chars,
+        _next: &WindowState,
+    ) -> Result<Past<bool>, AllocError> {
+        Ok(Past::Same)
+    }
+
+    fn owing(
+        &self,
+        _alloc: Global,
+        _next: &WindowState,
+        _more: &bool,
+    ) -> Result<WindowState, AllocError> {
+        Ok(self.start())
     }
 }

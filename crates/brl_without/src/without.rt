@@ -3,7 +3,8 @@ ghost use Rattle.std.specs.Prelude.{◌≡◌};
 ghost use Rattle.brl_without.specs.Without.{steps_without as listed_without};
 
 use crate::LeftOut;
-use brl_pairs::{Key, Machine, Parted, Step};
+use brl_cells::Chars;
+use brl_pairs::{Based, Key, Machine, Parted, Past, Step};
 use std::alloc::{AllocError, Global};
 use std::marker::Model;
 
@@ -69,6 +70,54 @@ impl<'m, M: Parted> Parted for Without<'m, M> {
     fn part_steps(&self, alloc: Global, part: &M::Part) -> Result<Vec<Step<M::State>>, AllocError> {
         let steps = self.machine.part_steps(alloc, part)?;
         Ok(steps_without(self.left_out, steps))
+    }
+}
+
+/// The base of a state is the machine's, and so is what becomes of its steps. What a step reads
+/// stays the same, so steps may be left out before or after.
+impl<'m, M: Based> Based for Without<'m, M> {
+    type More = M::More;
+
+    ghost sharing = { λ w. M.sharing w.machine };
+
+    fn law(&self) {
+        self.machine.law();
+    }
+
+    fn base(&self, alloc: Global, state: &M::State) -> Result<Option<M::State>, AllocError> {
+        self.machine.base(alloc, state)
+    }
+
+    fn gate(&self, reads: &Chars) -> u8 {
+        self.machine.gate(reads)
+    }
+
+    fn opens(&self, state: &M::State, gate: u8) -> bool {
+        self.machine.opens(state, gate)
+    }
+
+    fn bar<'s>(&self, state: &'s M::State, number: usize) -> Option<&'s Chars> {
+        self.machine.bar(state, number)
+    }
+
+    fn past(
+        &self,
+        alloc: Global,
+        state: &M::State,
+        met: &[u32],
+        reads: &Chars,
+        next: &M::State,
+    ) -> Result<Past<M::More>, AllocError> {
+        self.machine.past(alloc, state, met, reads, next)
+    }
+
+    fn owing(
+        &self,
+        alloc: Global,
+        next: &M::State,
+        more: &M::More,
+    ) -> Result<M::State, AllocError> {
+        self.machine.owing(alloc, next, more)
     }
 }
 
