@@ -8,6 +8,7 @@ use Rattle.brl_acting.specs.Forms.{is_definition}
 use Rattle.brl_acting.specs.Sets.{is_in, is_one_of, names_view, set_view}
 use Rattle.brl_acting.specs.Words.{LineParts, chars_at, word_at}
 use Rattle.brl_acting.specs.declared.classes.Classes.{Classes as ClassesOfCode}
+use Rattle.brl_acting.specs.declared.classes.MemberSets.{MemberSets}
 use Rattle.brl_acting.specs.declared.facts.Facts.{Facts}
 
 -- A character of a class belongs to others by it: capitals and small letters are letters. The empty
@@ -91,15 +92,44 @@ pub record Classes : Type 0 where
 abbrev pub met_by : (ℕ → Bool) → List (List ℕ × ℕ) → List (List ℕ × ℕ)
 met_by stood pairs = filter (λ pair. stood pair.1) pairs
 
-abbrev pub classes_by : List (List ℕ × ℕ) → List ℕ → (ℕ → Bool) → Classes
-classes_by pairs noletsigns stood = record {
-  names = is_name_of pairs;
-  met = is_name_of (met_by stood pairs);
+-- The members of some classes.
+pub record Members : Type 0 where
+  pub capitals : ℕ → Bool
+  pub plain_digits : ℕ → Bool
+  pub literary_digits : ℕ → Bool
+  pub letters : ℕ → Bool
+  pub spaces : ℕ → Bool
+  pub marks : ℕ → Bool
+
+abbrev pub members_in : List (List ℕ × ℕ) → Members
+members_in pairs = record {
   capitals = is_in (members (codes "uppercase") pairs);
   plain_digits = is_in (members (codes "digit") pairs);
   literary_digits = is_in (members (codes "litdigit") pairs);
   letters = is_in (members (codes "letter") pairs);
-  noletsigns = is_in noletsigns;
+  spaces = is_in (members (codes "space") pairs);
+  marks = is_in (members (codes "punctuation") pairs);
+}
+
+abbrev pub members_view : MemberSets → Members
+members_view all = record {
+  capitals = set_view all.capitals;
+  plain_digits = set_view all.plain_digits;
+  literary_digits = set_view all.literary_digits;
+  letters = set_view all.letters;
+  spaces = set_view all.spaces;
+  marks = set_view all.marks;
+}
+
+abbrev pub classes_from : Members → (ℕ → Bool) → List (List ℕ × ℕ) → (ℕ → Bool) → Classes
+classes_from all noletsigns pairs stood = record {
+  names = is_name_of pairs;
+  met = is_name_of (met_by stood pairs);
+  capitals = all.capitals;
+  plain_digits = all.plain_digits;
+  literary_digits = all.literary_digits;
+  letters = all.letters;
+  noletsigns = noletsigns;
 }
 
 abbrev pub classes_view : ClassesOfCode → Classes
@@ -113,45 +143,41 @@ classes_view classes = record {
   noletsigns = set_view classes.noletsigns;
 }
 
--- the alphabet has a character of a class
-abbrev pub has_member : List ℕ → List (List ℕ × ℕ) → List ℕ → Bool
-has_member name pairs chars = list_any (is_in (members name pairs)) chars
+-- the alphabet has a character that is neither a letter nor a space
+abbrev pub has_mark : Members → List ℕ → Bool
+has_mark all chars = list_any (λ c. not (all.letters c || all.spaces c)) chars
 
--- one that is neither a letter nor a space
-abbrev pub has_mark : List (List ℕ × ℕ) → List ℕ → Bool
-has_mark pairs chars = list_any (λ c. not (is_in (members (codes "letter") pairs) c || is_in (members (codes "space") pairs) c)) chars
-
--- a letter before which `letsign` may stand
-abbrev pub has_letter : List (List ℕ × ℕ) → List ℕ → List ℕ → Bool
-has_letter pairs noletsigns chars = list_any (λ c. is_in (members (codes "letter") pairs) c && not (is_in noletsigns c)) chars
+-- a letter before which a sign may stand
+abbrev pub has_letter : Members → (ℕ → Bool) → List ℕ → Bool
+has_letter all noletsigns chars = list_any (λ c. all.letters c && not (noletsigns c)) chars
 
 -- a space or a punctuation mark
-abbrev pub is_apart : List (List ℕ × ℕ) → ℕ → Bool
-is_apart pairs c = is_in (members (codes "space") pairs) c || is_in (members (codes "punctuation") pairs) c
+abbrev pub is_apart : Members → ℕ → Bool
+is_apart all c = all.spaces c || all.marks c
 
 -- A character beside which, or before which, a rewritten `letsign` isn't exact: a capital; one that
 -- `noletsignbefore` or `noletsignafter` lists; a letter that is a space or a punctuation mark too;
 -- and one that is none of the three, as a digit or a sign.
-abbrev pub is_odd : List (List ℕ × ℕ) → List ℕ → ℕ → Bool
-is_odd pairs besides c =
-    is_in (members (codes "uppercase") pairs) c || is_in besides c || (if is_in (members (codes "letter") pairs) c then is_apart pairs c else not (is_apart pairs c))
+abbrev pub is_odd : Members → (ℕ → Bool) → ℕ → Bool
+is_odd all besides c = all.capitals c || besides c || (if all.letters c then is_apart all c else not (is_apart all c))
 
 -- the alphabet has one
-abbrev pub has_odd : List (List ℕ × ℕ) → List ℕ → List ℕ → Bool
-has_odd pairs besides chars = list_any (is_odd pairs besides) chars
+abbrev pub has_odd : Members → (ℕ → Bool) → List ℕ → Bool
+has_odd all besides chars = list_any (is_odd all besides) chars
 
 -- a letter that is no capital and has none
-abbrev pub has_caseless : List (List ℕ × ℕ) → List (ℕ × ℕ) → List ℕ → Bool
-has_caseless pairs bases chars =
-    list_any (λ c. is_in (members (codes "letter") pairs) c
-    && not (is_in (members (codes "uppercase") pairs) c || is_in (seconds bases (is_in (members (codes "uppercase") pairs))) c)) chars
+abbrev pub is_caseless : Members → (ℕ → Bool) → ℕ → Bool
+is_caseless all small c = all.letters c && not (all.capitals c || small c)
 
-abbrev pub facts_by : List (List ℕ × ℕ) → List (ℕ × ℕ) → List ℕ → List ℕ → List ℕ → Facts
-facts_by pairs bases noletsigns besides chars = record {
-  has_capital = has_member (codes "uppercase") pairs chars;
-  has_digit = has_member (codes "digit") pairs chars || has_member (codes "litdigit") pairs chars;
-  has_mark = has_mark pairs chars;
-  has_letter = has_letter pairs noletsigns chars;
-  has_odd = has_odd pairs besides chars;
-  has_caseless = has_caseless pairs bases chars;
+abbrev pub has_caseless : Members → List (ℕ × ℕ) → List ℕ → Bool
+has_caseless all bases chars = list_any (is_caseless all (is_in (seconds bases all.capitals))) chars
+
+abbrev pub facts_by : Members → List (ℕ × ℕ) → (ℕ → Bool) → List ℕ → List ℕ → Facts
+facts_by all bases noletsigns besides chars = record {
+  has_capital = list_any all.capitals chars;
+  has_digit = list_any all.plain_digits chars || list_any all.literary_digits chars;
+  has_mark = has_mark all chars;
+  has_letter = has_letter all noletsigns chars;
+  has_odd = has_odd all (is_in besides) chars;
+  has_caseless = has_caseless all bases chars;
 }

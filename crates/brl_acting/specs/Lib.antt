@@ -4,6 +4,7 @@ pub mod Forms
 pub mod Capitals
 pub mod Classes
 pub mod Letters
+pub mod PartsViews
 pub mod Readings
 pub mod Tests
 pub mod Acting

@@ -6,7 +6,7 @@ use Rattle.brl_cells.specs.Dots.{reading}
 use Rattle.brl_cells.specs.declared.fault.DotsFault.{DotsFault}
 use Rattle.brl_table.specs.Items.{parts_of}
 use Rattle.brl_acting.specs.Capitals.{Reach, bases_of, has_opcode, reach_by, reach_view}
-use Rattle.brl_acting.specs.Classes.{Classes, classes_by, besides_of, classes_of, classes_view, facts_by, noletsigns_of}
+use Rattle.brl_acting.specs.Classes.{Classes, Members, besides_of, classes_from, classes_of, classes_view, facts_by, members_in, noletsigns_of}
 use Rattle.brl_acting.specs.Sets.{is_in, set_view}
 use Rattle.brl_acting.specs.Words.{LineParts, chars_at, word_at}
 use Rattle.brl_acting.specs.declared.facts.Facts.{Facts}
@@ -163,18 +163,19 @@ pub record Known : Type 0 where
 
 -- of lines and these characters, by the classes, the capitals and the letters without `letsign`
 -- that the lines give, and by facts
-abbrev pub known_from : List LineParts → List (List ℕ × ℕ) → List (ℕ × ℕ) → List ℕ → Facts → List ℕ → Known
-known_from lines pairs bases noletsigns facts chars =
+abbrev pub known_from : List LineParts → List (List ℕ × ℕ) → List (ℕ × ℕ) → Members → (ℕ → Bool) → Facts → List ℕ → Known
+known_from lines pairs bases all noletsigns facts chars =
     let reach = reach_by bases chars in
-    record { reach = reach; classes = classes_by pairs noletsigns reach.stood; facts = facts; read = readings_by lines bases reach.near facts }
+    record { reach = reach; classes = classes_from all noletsigns pairs reach.stood; facts = facts; read = readings_by lines bases reach.near facts }
 
 -- of lines and these characters
 abbrev pub known_by : List LineParts → List ℕ → Known
 known_by lines chars =
     let pairs = classes_of lines in
     let bases = bases_of lines in
-    let noletsigns = noletsigns_of lines in
-    known_from lines pairs bases noletsigns (facts_by pairs bases noletsigns (besides_of lines) chars) chars
+    let all = members_in pairs in
+    let noletsigns = is_in (noletsigns_of lines) in
+    known_from lines pairs bases all noletsigns (facts_by all bases noletsigns (besides_of lines) chars) chars
 
 -- of lines and an alphabet, to which the blank belongs
 abbrev pub known_of : List LineParts → List ℕ → Known

@@ -12,7 +12,6 @@ use Rattle.brl_lines.specs.declared.operand.CharsFault.{CharsFault}
 use Rattle.brl_acting.specs.Forms.{form_of}
 use Rattle.brl_acting.specs.Sets.{is_one_of}
 use Rattle.brl_acting.specs.declared.form.Form.{Form}
-use Rattle.brl_acting.specs.declared.parts.Parts.{Parts}
 use Rattle.brl_acting.specs.declared.table_line.TableLine.{TableLine}
 
 -- the words of a line, its opcode first
@@ -89,17 +88,6 @@ table_line_view line = record { line = line_view line.line.now; kept = line.kept
 
 abbrev pub parts_of : TableLineView → LineParts
 parts_of line = parts_by line.kept line.continued (words_of line.line)
-
--- parts as the code has them
-abbrev pub parts_view : Parts → LineParts
-parts_view parts = record {
-  kept = parts.kept;
-  continued = parts.continued;
-  nofor = parts.nofor;
-  classes = map (λ word. word.now) parts.classes.items;
-  words = map (λ word. word.now) parts.words.items;
-  form = parts.form;
-}
 
 -- ---- Characters
 

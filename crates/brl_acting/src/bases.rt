@@ -1,10 +1,10 @@
 //! Capitals and their small letters, as lines give them.
 ghost use Rattle.std.specs.Prelude.{◌≡◌, ◌++◌, IfOk, OnOk, Some, map, option_map};
 ghost use Rattle.brl_acting.specs.Capitals.{bases_in, bases_of as bases_by, both as both_by, has_opcode as has_opcode_by, pair_chars as pair_chars_by, pair_of as pair_by};
-ghost use Rattle.brl_acting.specs.Words.{parts_view};
+ghost use Rattle.brl_acting.specs.PartsViews.{parts_view};
 
+use crate::line_parts::Parts;
 use crate::operand::{chars_at, word_at};
-use crate::parts::Parts;
 use std::alloc::{AllocError, Global};
 
 /// Whether a line has this opcode after its prefixes.

@@ -3,12 +3,13 @@ ghost use Rattle.std.specs.Prelude.{◌≡◌, ◌++◌, IfOk, OnOk, [], ◌∷�
 ghost use Rattle.std.specs.Option.{unwrap_or};
 ghost use Rattle.brl_acting.specs.Classes.{besides_in as besides_by_line, besides_of as besides_by_lines, classes_in as classes_by_line, classes_named as classes_by_name, classes_of as classes_by_lines, classes_of_pair as classes_by_pair, classes_of_pairs as classes_by_pairs, classes_with as classes_by_character, names_class as names_class_by, noletsigns_in as noletsigns_by_line, noletsigns_of as noletsigns_by_lines, only as only_by};
 ghost use Rattle.brl_acting.specs.Sets.{is_one_of, pair_views};
-ghost use Rattle.brl_acting.specs.Words.{chars_at as chars_by, parts_view};
+ghost use Rattle.brl_acting.specs.PartsViews.{parts_view};
+ghost use Rattle.brl_acting.specs.Words.{chars_at as chars_by};
 
 use crate::bases::{has_opcode, push_base};
 use crate::form::is_definition;
+use crate::line_parts::Parts;
 use crate::operand::{chars_at, word_at};
-use crate::parts::Parts;
 use std::alloc::{AllocError, Global};
 
 /// The name of a class, and a character of it.
@@ -85,8 +86,7 @@ fn push_classes<'a>(
     let words = parts.words.as_slice();
     let opcode = word_at(words, 0);
     if is_definition(opcode) {
-        let chars = chars_or(alloc, words, 1, &[])?;
-        return push_named(pairs, opcode, chars.as_slice());
+        return push_named(pairs, opcode, parts.first_chars());
     }
     if names_class(opcode) {
         let chars = chars_or(alloc, words, 2, &[' '])?;
@@ -98,7 +98,7 @@ fn push_classes<'a>(
 }
 
 /// The characters of the word at a place; others where there is none, or they can't be known.
-pub(crate) fn chars_or(
+fn chars_or(
     alloc: Global,
     words: &[&str],
     place: usize,
@@ -134,19 +134,15 @@ fn only(chars: &[char]) -> &[char]
 }
 
 /// Adds the letters before which `letsign` doesn't stand, by a line.
-fn push_noletsigns(
-    alloc: Global,
-    letters: &mut Vec<char>,
-    parts: &Parts<'_>,
-) -> Result<(), AllocError>
+fn push_noletsigns(letters: &mut Vec<char>, parts: &Parts<'_>) -> Result<(), AllocError>
     ensures { OnOk result (letters.new.items ≡ letters.old.items ++ noletsigns_by_line (parts_view parts.now)) }
 {
     let words = parts.words.as_slice();
     if has_opcode(parts, "noletsign") {
-        return letters.extend_from_slice(chars_or(alloc, words, 1, &[])?.as_slice());
+        return letters.extend_from_slice(parts.first_chars());
     }
     if is_word(word_at(words, 0)) && !parts.nofor {
-        return letters.extend_from_slice(only(chars_or(alloc, words, 1, &[])?.as_slice()));
+        return letters.extend_from_slice(only(parts.first_chars()));
     }
     Ok(())
 }
@@ -159,12 +155,12 @@ fn is_word(opcode: &str) -> bool
 }
 
 /// Adds the characters beside which `letsign` doesn't stand, by a line.
-fn push_besides(alloc: Global, chars: &mut Vec<char>, parts: &Parts<'_>) -> Result<(), AllocError>
+fn push_besides(chars: &mut Vec<char>, parts: &Parts<'_>) -> Result<(), AllocError>
     ensures { OnOk result (chars.new.items ≡ chars.old.items ++ besides_by_line (parts_view parts.now)) }
 {
     let words = parts.words.as_slice();
     if is_beside(word_at(words, 0)) {
-        chars.extend_from_slice(chars_or(alloc, words, 1, &[])?.as_slice())?;
+        chars.extend_from_slice(parts.first_chars())?;
     }
     Ok(())
 }
@@ -182,7 +178,7 @@ pub(crate) fn besides_of(alloc: Global, lines: &[Parts<'_>]) -> Result<Vec<char>
 {
     let mut chars = Vec::new(alloc);
     for parts in lines {
-        push_besides(alloc, &mut chars, parts)?;
+        push_besides(&mut chars, parts)?;
     }
     Ok(chars)
 }
@@ -193,7 +189,7 @@ pub(crate) fn noletsigns_of(alloc: Global, lines: &[Parts<'_>]) -> Result<Vec<ch
 {
     let mut letters = Vec::new(alloc);
     for parts in lines {
-        push_noletsigns(alloc, &mut letters, parts)?;
+        push_noletsigns(&mut letters, parts)?;
     }
     Ok(letters)
 }

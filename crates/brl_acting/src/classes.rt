@@ -1,6 +1,6 @@
 //! The classes of a table, and which of them an alphabet meets.
 ghost use Rattle.std.specs.Prelude.{◌≡◌, IfOk};
-ghost use Rattle.brl_acting.specs.Classes.{classes_by, classes_view, is_name_of, members as members_by, met_by};
+ghost use Rattle.brl_acting.specs.Classes.{classes_from, classes_view, is_name_of, members as members_by, members_in, members_view, met_by};
 ghost use Rattle.brl_acting.specs.Sets.{is_in, names_view, pair_views, set_view};
 
 use crate::char_set::CharSet;
@@ -21,6 +21,32 @@ pub(crate) struct Classes<'a> {
     pub letters: CharSet,
     /// Letters before which `letsign` doesn't stand.
     pub noletsigns: CharSet,
+}
+
+/// The members of some classes.
+#[derive(Drop)]
+pub(crate) struct MemberSets {
+    pub capitals: CharSet,
+    pub plain_digits: CharSet,
+    pub literary_digits: CharSet,
+    pub letters: CharSet,
+    pub spaces: CharSet,
+    /// Punctuation marks.
+    pub marks: CharSet,
+}
+
+/// The members of some classes, by the characters that have these.
+pub(crate) fn members_of(alloc: Global, pairs: &[ClassPair<'_>]) -> Result<MemberSets, AllocError>
+    ensures { IfOk result (λ all. members_view all ≡ members_in (pair_views pairs.now)) }
+{
+    Ok(MemberSets {
+        capitals: members(alloc, pairs, "uppercase")?,
+        plain_digits: members(alloc, pairs, "digit")?,
+        literary_digits: members(alloc, pairs, "litdigit")?,
+        letters: members(alloc, pairs, "letter")?,
+        spaces: members(alloc, pairs, "space")?,
+        marks: members(alloc, pairs, "punctuation")?,
+    })
 }
 
 /// The names of pairs.
@@ -66,11 +92,7 @@ pub(crate) fn members(
 }
 
 /// The list of the characters of a class.
-pub(crate) fn member_list(
-    alloc: Global,
-    pairs: &[ClassPair<'_>],
-    name: &str,
-) -> Result<Vec<char>, AllocError>
+fn member_list(alloc: Global, pairs: &[ClassPair<'_>], name: &str) -> Result<Vec<char>, AllocError>
     ensures { IfOk result (λ chars. chars.items ≡ members_by name.now (pair_views pairs.now)) }
 {
     let mut chars = Vec::new(alloc);
@@ -82,31 +104,27 @@ pub(crate) fn member_list(
     Ok(chars)
 }
 
-/// The classes of a table by the characters that have them, by letters before which `letsign`
-/// doesn't stand, and by those that are stood for.
+/// The classes of a table by the characters that have them, by the members of some, by letters
+/// before which `letsign` doesn't stand, and by those that are stood for.
 pub(crate) fn classes_of<'a>(
     alloc: Global,
     pairs: &[ClassPair<'a>],
-    noletsigns: &[char],
+    all: MemberSets,
+    noletsigns: CharSet,
     stood: &CharSet,
 ) -> Result<Classes<'a>, AllocError>
-    ensures { IfOk result (λ classes. classes_view classes ≡ classes_by (pair_views pairs.now) noletsigns.now (set_view stood.now)) }
+    ensures { IfOk result (λ classes. classes_view classes ≡ classes_from (members_view all) (set_view noletsigns) (pair_views pairs.now) (set_view stood.now)) }
 {
     let met_pairs = met_of(alloc, pairs, stood)?;
     let names = names_of(alloc, pairs)?;
     let met = names_of(alloc, met_pairs.as_slice())?;
-    let capitals = members(alloc, pairs, "uppercase")?;
-    let plain_digits = members(alloc, pairs, "digit")?;
-    let literary_digits = members(alloc, pairs, "litdigit")?;
-    let letters = members(alloc, pairs, "letter")?;
-    let noletsigns = CharSet::of(alloc, noletsigns)?;
     Ok(Classes {
         names,
         met,
-        capitals,
-        plain_digits,
-        literary_digits,
-        letters,
+        capitals: all.capitals,
+        plain_digits: all.plain_digits,
+        literary_digits: all.literary_digits,
+        letters: all.letters,
         noletsigns,
     })
 }

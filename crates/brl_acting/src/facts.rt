@@ -1,12 +1,11 @@
 //! Which characters an alphabet has.
-ghost use Rattle.std.specs.Prelude.{◌≡◌, ◌&&◌, ◌||◌, IfOk, if◌then◌else◌, not};
+ghost use Rattle.std.specs.Prelude.{◌≡◌, IfOk};
 ghost use Rattle.std.specs.List.{list_any};
-ghost use Rattle.brl_acting.specs.Classes.{facts_by, has_caseless as has_caseless_by, has_letter as has_letter_by, has_mark as has_mark_by, has_member as has_member_by, has_odd as has_odd_by, is_apart};
-ghost use Rattle.brl_acting.specs.Sets.{pair_views, set_view};
+ghost use Rattle.brl_acting.specs.Classes.{facts_by, has_caseless as has_caseless_by, has_letter as has_letter_by, has_mark as has_mark_by, has_odd as has_odd_by, is_apart as is_apart_by, is_caseless as is_caseless_by, is_odd as is_odd_by, members_view};
+ghost use Rattle.brl_acting.specs.Sets.{is_in, set_view};
 
 use crate::char_set::CharSet;
-use crate::class_pairs::ClassPair;
-use crate::classes::{member_list, members};
+use crate::classes::MemberSets;
 use crate::reach::seconds;
 use std::alloc::{AllocError, Global};
 
@@ -25,131 +24,106 @@ pub(crate) struct Facts {
     pub has_caseless: bool,
 }
 
-/// Whether the alphabet has a character of a class.
-fn has_member(
-    alloc: Global,
-    pairs: &[ClassPair<'_>],
-    name: &str,
-    chars: &[char],
-) -> Result<bool, AllocError>
-    ensures { IfOk result (λ has. has ≡ has_member_by name.now (pair_views pairs.now) chars.now) }
-{
-    let members = members(alloc, pairs, name)?;
-    Ok(members.has_any(chars))
-}
-
-/// Whether it has one that is neither a letter nor a space.
-fn has_mark(alloc: Global, pairs: &[ClassPair<'_>], chars: &[char]) -> Result<bool, AllocError>
-    ensures { IfOk result (λ has. has ≡ has_mark_by (pair_views pairs.now) chars.now) }
-{
-    let mut known = members(alloc, pairs, "letter")?;
-    let spaces = member_list(alloc, pairs, "space")?;
-    known.add(spaces.as_slice())?;
-    Ok(any_outside(chars, &known))
-}
-
-/// Whether one of characters isn't in a set.
-fn any_outside(chars: &[char], set: &CharSet) -> bool
-    ensures { result ≡ list_any (λ c. not (set_view set.now c)) chars.now }
-{
-    chars.iter().any(|c| !set.has(*c))
-}
-
-/// Whether one of characters is in a set, and not in another one.
-fn any_in_but(chars: &[char], set: &CharSet, other: &CharSet) -> bool
-    ensures { result ≡ list_any (λ c. set_view set.now c && not (set_view other.now c)) chars.now }
-{
-    chars.iter().any(|c| set.has(*c) && !other.has(*c))
-}
-
-/// Whether it has a letter before which `letsign` may stand.
-fn has_letter(
-    alloc: Global,
-    pairs: &[ClassPair<'_>],
-    noletsigns: &[char],
-    chars: &[char],
-) -> Result<bool, AllocError>
-    ensures { IfOk result (λ has. has ≡ has_letter_by (pair_views pairs.now) noletsigns.now chars.now) }
-{
-    let letters = members(alloc, pairs, "letter")?;
-    let without = CharSet::of(alloc, noletsigns)?;
-    Ok(any_in_but(chars, &letters, &without))
-}
-
-/// The characters of spaces and of punctuation.
-fn apart_of(alloc: Global, pairs: &[ClassPair<'_>]) -> Result<CharSet, AllocError>
-    ensures { IfOk result (λ set. set_view set ≡ is_apart (pair_views pairs.now)) }
-{
-    let mut apart = members(alloc, pairs, "space")?;
-    let marks = member_list(alloc, pairs, "punctuation")?;
-    apart.add(marks.as_slice())?;
-    Ok(apart)
-}
-
-/// Whether one of characters is in the first set, or is in both others, or in none of them.
-fn any_odd(chars: &[char], odd: &CharSet, letters: &CharSet, apart: &CharSet) -> bool
-    ensures { result ≡ list_any (λ c. set_view odd.now c || (if set_view letters.now c then set_view apart.now c else not (set_view apart.now c))) chars.now }
+/// Whether the alphabet has a character that is neither a letter nor a space.
+fn has_mark(all: &MemberSets, chars: &[char]) -> bool
+    ensures { result ≡ has_mark_by (members_view all.now) chars.now }
 {
     chars
         .iter()
-        .any(|c| odd.has(*c) || letters.has(*c) == apart.has(*c))
+        .any(|c| !(all.letters.has(*c) || all.spaces.has(*c)))
 }
 
-/// Whether it has one beside which, or before which, a rewritten `letsign` isn't exact.
+/// Whether it has a letter before which `letsign` may stand.
+fn has_letter(all: &MemberSets, noletsigns: &CharSet, chars: &[char]) -> bool
+    ensures { result ≡ has_letter_by (members_view all.now) (set_view noletsigns.now) chars.now }
+{
+    chars
+        .iter()
+        .any(|c| all.letters.has(*c) && !noletsigns.has(*c))
+}
+
+/// Whether a character is a space or a punctuation mark.
+fn is_apart(all: &MemberSets, c: char) -> bool
+    ensures { result ≡ is_apart_by (members_view all.now) c }
+{
+    all.spaces.has(c) || all.marks.has(c)
+}
+
+/// Whether it is one beside which, or before which, a rewritten `letsign` isn't exact.
+fn is_odd(all: &MemberSets, besides: &CharSet, c: char) -> bool
+    ensures { result ≡ is_odd_by (members_view all.now) (set_view besides.now) c }
+{
+    all.capitals.has(c) || besides.has(c) || all.letters.has(c) == is_apart(all, c)
+}
+
+/// Whether the alphabet has one.
 fn has_odd(
     alloc: Global,
-    pairs: &[ClassPair<'_>],
+    all: &MemberSets,
     besides: &[char],
     chars: &[char],
 ) -> Result<bool, AllocError>
-    ensures { IfOk result (λ has. has ≡ has_odd_by (pair_views pairs.now) besides.now chars.now) }
+    ensures { IfOk result (λ has. has ≡ has_odd_by (members_view all.now) (is_in besides.now) chars.now) }
 {
-    let mut odd = members(alloc, pairs, "uppercase")?;
-    odd.add(besides)?;
-    let letters = members(alloc, pairs, "letter")?;
-    let apart = apart_of(alloc, pairs)?;
-    Ok(any_odd(chars, &odd, &letters, &apart))
+    let besides = CharSet::of(alloc, besides)?;
+    Ok(any_odd(all, &besides, chars))
 }
 
-/// Whether it has a letter that is no capital and has none.
+/// Whether one of characters is one.
+fn any_odd(all: &MemberSets, besides: &CharSet, chars: &[char]) -> bool
+    ensures { result ≡ has_odd_by (members_view all.now) (set_view besides.now) chars.now }
+{
+    chars.iter().any(|c| is_odd(all, besides, *c))
+}
+
+/// Whether a character is a letter, no capital, and none of these small letters of capitals.
+fn is_caseless(all: &MemberSets, small: &CharSet, c: char) -> bool
+    ensures { result ≡ is_caseless_by (members_view all.now) (set_view small.now) c }
+{
+    all.letters.has(c) && !(all.capitals.has(c) || small.has(c))
+}
+
+/// Whether the alphabet has a letter that is no capital and has none.
 fn has_caseless(
     alloc: Global,
-    pairs: &[ClassPair<'_>],
+    all: &MemberSets,
     bases: &[(char, char)],
     chars: &[char],
 ) -> Result<bool, AllocError>
-    ensures { IfOk result (λ has. has ≡ has_caseless_by (pair_views pairs.now) bases.now chars.now) }
+    ensures { IfOk result (λ has. has ≡ has_caseless_by (members_view all.now) bases.now chars.now) }
 {
-    let letters = members(alloc, pairs, "letter")?;
-    let mut cased = members(alloc, pairs, "uppercase")?;
-    let small = seconds(alloc, bases, &cased)?;
-    cased.add(small.as_slice())?;
-    Ok(any_in_but(chars, &letters, &cased))
+    let small = seconds(alloc, bases, &all.capitals)?;
+    let set = CharSet::of(alloc, small.as_slice())?;
+    Ok(any_caseless(all, &set, chars))
 }
 
-/// Which characters an alphabet has.
+/// Whether one of characters is one.
+fn any_caseless(all: &MemberSets, small: &CharSet, chars: &[char]) -> bool
+    ensures { result ≡ list_any (is_caseless_by (members_view all.now) (set_view small.now)) chars.now }
+{
+    chars.iter().any(|c| is_caseless(all, small, *c))
+}
+
+/// Which characters an alphabet has, by the members of classes.
 pub(crate) fn facts_of(
     alloc: Global,
-    pairs: &[ClassPair<'_>],
+    all: &MemberSets,
     bases: &[(char, char)],
-    noletsigns: &[char],
+    noletsigns: &CharSet,
     besides: &[char],
     chars: &[char],
 ) -> Result<Facts, AllocError>
-    ensures { IfOk result (λ facts. facts ≡ facts_by (pair_views pairs.now) bases.now noletsigns.now besides.now chars.now) }
+    ensures { IfOk result (λ facts. facts ≡ facts_by (members_view all.now) bases.now (set_view noletsigns.now) besides.now chars.now) }
 {
-    let has_capital = has_member(alloc, pairs, "uppercase", chars)?;
-    let has_plain = has_member(alloc, pairs, "digit", chars)?;
-    let has_literary = has_member(alloc, pairs, "litdigit", chars)?;
-    let has_mark = has_mark(alloc, pairs, chars)?;
-    let has_letter = has_letter(alloc, pairs, noletsigns, chars)?;
-    let has_odd = has_odd(alloc, pairs, besides, chars)?;
-    let has_caseless = has_caseless(alloc, pairs, bases, chars)?;
+    let has_plain = all.plain_digits.has_any(chars);
+    let has_literary = all.literary_digits.has_any(chars);
+    let has_odd = has_odd(alloc, all, besides, chars)?;
+    let has_caseless = has_caseless(alloc, all, bases, chars)?;
     Ok(Facts {
-        has_capital,
+        has_capital: all.capitals.has_any(chars),
         has_digit: has_plain || has_literary,
-        has_mark,
-        has_letter,
+        has_mark: has_mark(all, chars),
+        has_letter: has_letter(all, noletsigns, chars),
         has_odd,
         has_caseless,
     })

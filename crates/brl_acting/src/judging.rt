@@ -2,12 +2,14 @@
 ghost use Rattle.std.specs.Prelude.{◌≡◌, ◌++◌, IfOk, OnOk, map};
 ghost use Rattle.brl_acting.specs.Acting.{acting_at, acting_lines, acting_of, can_act as can_act_by};
 ghost use Rattle.brl_acting.specs.Readings.{known_view};
-ghost use Rattle.brl_acting.specs.Words.{parts_of, parts_view, table_line_view};
+ghost use Rattle.brl_acting.specs.PartsViews.{parts_view};
+ghost use Rattle.brl_acting.specs.Words.{parts_of, table_line_view};
 
 use crate::kept::kept_acts;
 use crate::known::{Known, known_of};
 use crate::left_out::faulty_acts;
-use crate::parts::{Parts, parts_of_lines};
+use crate::line_parts::Parts;
+use crate::parts::parts_of_lines;
 use crate::table_line::TableLine;
 use std::alloc::{AllocError, Global};
 

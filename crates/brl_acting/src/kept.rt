@@ -4,14 +4,15 @@ ghost use Rattle.std.specs.List.{list_any};
 ghost use Rattle.std.specs.Option.{option_map_or};
 ghost use Rattle.brl_acting.specs.Acting.{begins_alone as begins_alone_by, chars_act as chars_act_by, comes_late as comes_late_by, contraction_acts as contraction_acts_by, differs_by as differs_by_form, ends_run as ends_run_by, gets_sign as gets_sign_by, is_before_sign as is_before_sign_by, is_capital_rule as is_capital_rule_by, is_always_before as is_always_before_by, is_half_digit as is_half_digit_by, is_number_rule as is_number_rule_by, is_run_rule as is_run_rule_by, is_same_small as is_same_small_by, kept_acts as kept_acts_by, kept_rule_acts as kept_rule_acts_by, lacks_sign as lacks_sign_by, loses_sign as loses_sign_by, more_act as more_act_by, one_acts as one_acts_by, small_act as small_act_by, some_act as some_act_by};
 ghost use Rattle.brl_acting.specs.Readings.{known_view, rule_view, small_by};
-ghost use Rattle.brl_acting.specs.Words.{chars_at as chars_by, parts_view};
+ghost use Rattle.brl_acting.specs.PartsViews.{parts_view};
+ghost use Rattle.brl_acting.specs.Words.{chars_at as chars_by};
 
 use crate::bases::has_opcode;
 use crate::form::{Form, is_placed};
 use crate::known::Known;
 use crate::left_out::{each_at, list_acts};
-use crate::operand::{chars_at, word_at};
-use crate::parts::Parts;
+use crate::line_parts::Parts;
+use crate::operand::word_at;
 use crate::readings::small;
 use crate::rules::Rule;
 use std::alloc::{AllocError, Global};
@@ -254,7 +255,7 @@ fn kept_rule_acts(
         let each = each_at(alloc, &known.reach.stood, words, 1)?;
         return Ok(known.facts.has_digit && each);
     }
-    match chars_at(alloc, words, 1)? {
+    match &parts.chars {
         Some(chars) => chars_act(alloc, known, place, parts, chars.as_slice()),
         None => Ok(true),
     }
@@ -270,12 +271,12 @@ fn is_half_digit(known: &Known<'_>, character: char) -> bool
 }
 
 /// Whether a definition is one of such a digit.
-fn defines_half_digit(alloc: Global, known: &Known<'_>, words: &[&str]) -> Result<bool, AllocError>
-    ensures { IfOk result (λ does. does ≡ option_map_or (list_any (is_half_digit_by (known_view known.now))) (chars_by (map (λ word. word.now) words.now) 1) true) }
+fn defines_half_digit(known: &Known<'_>, parts: &Parts<'_>) -> bool
+    ensures { result ≡ option_map_or (list_any (is_half_digit_by (known_view known.now))) (chars_by (parts_view parts.now).words 1) true }
 {
-    match chars_at(alloc, words, 1)? {
-        Some(chars) => Ok(has_half_digit(known, chars.as_slice())),
-        None => Ok(true),
+    match &parts.chars {
+        Some(chars) => has_half_digit(known, chars.as_slice()),
+        None => true,
     }
 }
 
@@ -300,10 +301,7 @@ fn differs_by(
 {
     let words = parts.words.as_slice();
     match form {
-        Form::Defines => {
-            let is_half = defines_half_digit(alloc, known, words)?;
-            Ok(known.read.has_numsign && is_half)
-        }
+        Form::Defines => { Ok(known.read.has_numsign && defines_half_digit(known, parts)) }
         Form::DigitList => list_acts(alloc, known, words),
         Form::Capitals => Ok(
             has_opcode(parts, "begcapsword")

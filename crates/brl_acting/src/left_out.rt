@@ -6,14 +6,15 @@ ghost use Rattle.brl_acting.specs.Capitals.{pair_chars as pair_by};
 ghost use Rattle.brl_acting.specs.Readings.{known_view};
 ghost use Rattle.brl_acting.specs.Sets.{set_view};
 ghost use Rattle.brl_acting.specs.Tests.{is_class_met as is_class_by};
-ghost use Rattle.brl_acting.specs.Words.{chars_at as chars_by, parts_view};
+ghost use Rattle.brl_acting.specs.PartsViews.{parts_view};
+ghost use Rattle.brl_acting.specs.Words.{chars_at as chars_by};
 
 use crate::bases::pair_chars;
 use crate::char_set::CharSet;
 use crate::form::{Form, is_definition};
 use crate::known::Known;
+use crate::line_parts::Parts;
 use crate::operand::{all_chars_at, chars_at, word_at};
-use crate::parts::Parts;
 use crate::tests_met::{is_class_met, is_pass_met, is_text_met};
 use std::alloc::{AllocError, Global};
 

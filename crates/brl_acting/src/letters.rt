@@ -1,13 +1,15 @@
 //! The letters of a table, and those before which `letsign` may stand.
 ghost use Rattle.std.specs.Prelude.{◌≡◌, IfOk, map};
 ghost use Rattle.brl_acting.specs.Letters.{letters_by, letters_of, letters_view, table_line as table_line_of};
-ghost use Rattle.brl_acting.specs.Words.{parts_view, table_line_view};
+ghost use Rattle.brl_acting.specs.PartsViews.{parts_view};
+ghost use Rattle.brl_acting.specs.Words.{table_line_view};
 ghost use Rattle.brl_lines.specs.Views.{line_view};
 
 use crate::char_set::CharSet;
 use crate::class_pairs::{classes_of, noletsigns_of};
 use crate::classes::members;
-use crate::parts::{Parts, parts_of_lines};
+use crate::line_parts::Parts;
+use crate::parts::parts_of_lines;
 use crate::table_line::TableLine;
 use brl_lines::Line;
 use std::alloc::{AllocError, Global};

@@ -16,13 +16,20 @@ impl<'a> NameSet<'a> {
     pub fn add(&mut self, name: &'a str) -> Result<(), AllocError>
         ensures { OnOk result (names_view self.new ≡ (λ word. names_view self.old word || bytes_eq word name.now)) }
     {
-        if !self.has(name.as_bytes()) {
+        if !self.has_word(name) {
             self.names.push(name)?;
         }
         Ok(())
     }
 
     /// Whether a word is in the set.
+    fn has_word(&self, name: &str) -> bool
+        ensures { result ≡ names_view self.now name.now }
+    {
+        self.names.iter().any(|other| name == *other)
+    }
+
+    /// Whether these bytes are a word in the set.
     pub fn has(&self, name: &[u8]) -> bool
         ensures { result ≡ names_view self.now name.now }
     {

@@ -1,50 +1,28 @@
 //! A line as its needs see it: its prefixes, its opcode and its operands.
 ghost use Rattle.std.specs.Prelude.{◌≡◌, IfOk, map};
+ghost use Rattle.std.specs.Option.{ForSome};
 ghost use Rattle.brl_lines.specs.Views.{line_view};
-ghost use Rattle.brl_acting.specs.Words.{after_prefixes as words_after_prefixes, classes_of_prefixes, names_class as is_class, opcode_of as opcode_of_line, parts_of as parts_by, parts_view, table_line_view, prefix_length as length_of_prefix, prefix_words as words_of_prefixes, words_of as words_of_line};
+ghost use Rattle.brl_acting.specs.PartsViews.{parts_view};
+ghost use Rattle.brl_acting.specs.Words.{after_prefixes as words_after_prefixes, classes_of_prefixes, names_class as is_class, opcode_of as opcode_of_line, parts_of as parts_by, table_line_view, prefix_words as words_of_prefixes, words_of as words_of_line};
 
-use crate::form::{Form, form_of, is_among};
-use crate::operand::word_at;
+use crate::form::{form_of, is_among};
+use crate::line_parts::Parts;
+use crate::opcode::{Opcode, opcode_after, prefix_length};
+use crate::operand::{chars_at, word_at};
 use crate::table_line::TableLine;
 use brl_lines::Line;
 use std::alloc::{AllocError, Global};
-
-/// A line, its prefixes apart.
-#[derive(Drop)]
-pub(crate) struct Parts<'a> {
-    pub kept: bool,
-    pub continued: bool,
-    /// Whether `nofor` is a prefix.
-    pub nofor: bool,
-    /// The classes that `before` and `after` name.
-    pub classes: Vec<&'a str>,
-    /// The opcode and the operands.
-    pub words: Vec<&'a str>,
-    /// The form of the opcode's needs.
-    pub form: Option<Form>,
-}
 
 /// The words of a line, its opcode first.
 fn words_of<'a>(alloc: Global, line: &Line<'a>) -> Result<Vec<&'a str>, AllocError>
     ensures { IfOk result (λ words. map (λ word. word.now) words.items ≡ words_of_line (line_view line.now)) }
 {
-    let mut words = Vec::new(alloc);
+    let mut words = Vec::with_capacity(alloc, line.operands.len() + 1)?;
     words.push(line.opcode.text)?;
     for operand in &line.operands {
         words.push(operand.text)?;
     }
     Ok(words)
-}
-
-/// How many words a prefix takes that begins with this one: 0 where it begins none.
-fn prefix_length(word: &str) -> usize
-    ensures { result ≡ length_of_prefix word.now }
-{
-    match word {
-        "noback" | "nofor" | "nocross" | "empmatchbefore" | "empmatchafter" => 1,
-        "before" | "after" => 2,
-        _ => 0,
-    }
 }
 
 /// The words after all prefixes.
@@ -96,8 +74,8 @@ fn classes_in<'a>(alloc: Global, prefixes: &[&'a str]) -> Result<Vec<&'a str>, A
     Ok(classes)
 }
 
-/// The parts of a line.
-fn parts_of<'a>(alloc: Global, line: &TableLine<'_, 'a>) -> Result<Parts<'a>, AllocError>
+/// The parts of a line that may begin with prefixes.
+fn prefixed_parts<'a>(alloc: Global, line: &TableLine<'_, 'a>) -> Result<Parts<'a>, AllocError>
     ensures { IfOk result (λ parts. parts_view parts ≡ parts_by (table_line_view line.now)) }
 {
     let words = words_of(alloc, line.line)?;
@@ -109,8 +87,45 @@ fn parts_of<'a>(alloc: Global, line: &TableLine<'_, 'a>) -> Result<Parts<'a>, Al
         nofor: is_among("nofor", prefixes),
         classes: classes_in(alloc, prefixes)?,
         words: Vec::from_slice(alloc, after)?,
+        chars: chars_at(alloc, after, 1)?,
         form: form_of(word_at(after, 0)),
     })
+}
+
+/// The parts of a line that begins with its opcode.
+fn plain_parts<'a>(
+    alloc: Global,
+    line: &TableLine<'_, 'a>,
+    opcode: Opcode<'a>,
+) -> Result<Parts<'a>, AllocError>
+    requires { opcode.word.now ≡ line.now.line.now.opcode.text.now }
+    ensures { IfOk result (λ parts. parts_view parts ≡ parts_by (table_line_view line.now)) }
+{
+    let words = words_of(alloc, line.line)?;
+    Ok(Parts {
+        kept: line.kept,
+        continued: line.continued,
+        nofor: false,
+        classes: Vec::new(alloc),
+        chars: chars_at(alloc, words.as_slice(), 1)?,
+        words,
+        form: opcode.form,
+    })
+}
+
+/// The parts of a line, by its first word where that is its opcode.
+fn parts_of<'a>(
+    alloc: Global,
+    line: &TableLine<'_, 'a>,
+    opcode: Option<Opcode<'a>>,
+) -> Result<Parts<'a>, AllocError>
+    requires { ForSome opcode (λ opcode. opcode.word.now ≡ line.now.line.now.opcode.text.now) }
+    ensures { IfOk result (λ parts. parts_view parts ≡ parts_by (table_line_view line.now)) }
+{
+    match opcode {
+        Some(opcode) => plain_parts(alloc, line, opcode),
+        None => prefixed_parts(alloc, line),
+    }
 }
 
 /// The parts of lines.
@@ -121,8 +136,11 @@ pub(crate) fn parts_of_lines<'a>(
     ensures { IfOk result (λ parts. map parts_view parts.items ≡ map parts_by (map table_line_view lines.now)) }
 {
     let mut parts = Vec::with_capacity(alloc, lines.len())?;
+    let mut opcode = None;
     for line in lines {
-        parts.push(parts_of(alloc, line)?)?;
+        let own = line.line;
+        opcode = opcode_after(opcode, own.opcode.text);
+        parts.push(parts_of(alloc, line, opcode)?)?;
     }
     Ok(parts)
 }

@@ -2,19 +2,17 @@
 ghost use Rattle.std.specs.Prelude.{◌≡◌, ◌++◌, IfOk, OnOk, codes, flat_map, map, option_map};
 ghost use Rattle.std.specs.List.{list_any};
 ghost use Rattle.brl_cells.specs.Dots.{reading};
-ghost use Rattle.brl_table.specs.Items.{parts_of as parts_around};
 ghost use Rattle.brl_acting.specs.Capitals.{has_opcode as has_opcode_by};
 ghost use Rattle.brl_acting.specs.Readings.{cells_at, cells_if, cells_in as cells_by_word, cells_of as cells_by, dots_place as dots_place_by, given_cells, keeps as keeps_by, is_kept_letsign as is_kept_letsign_by, keeps_runs as keeps_runs_by, letsign_of as letsign_by, place_if as place_by, readings_by, readings_view, sign_cells as sign_cells_by, sign_cells_in, signs_if_near, small_by};
 ghost use Rattle.brl_acting.specs.Sets.{is_in, set_view};
-ghost use Rattle.brl_acting.specs.Words.{parts_view};
+ghost use Rattle.brl_acting.specs.PartsViews.{parts_view};
 
 use crate::bases::has_opcode;
 use crate::char_set::CharSet;
-use crate::class_pairs::chars_or;
 use crate::facts::Facts;
 use crate::form::Form;
+use crate::line_parts::Parts;
 use crate::operand::word_at;
-use crate::parts::Parts;
 use crate::rules::{Rule, rules_of};
 use brl_cells::{Cell, read_dots};
 use brl_failure::Failure;
@@ -62,19 +60,36 @@ pub(crate) fn small(bases: &[(char, char)], character: char) -> char
 fn push_cells(alloc: Global, cells: &mut Vec<char>, word: &str) -> Result<(), AllocError>
     ensures { OnOk result (cells.new.items ≡ cells.old.items ++ cells_by_word word.now) }
 {
-    let (first, second) = parts_of(word);
+    match word.split_once(',') {
+        Some((first, second)) => push_parts(alloc, cells, first, second),
+        None => push_twice(alloc, cells, word),
+    }
+}
+
+/// Adds the cells that two parts of a word spell.
+fn push_parts(
+    alloc: Global,
+    cells: &mut Vec<char>,
+    first: &str,
+    second: &str,
+) -> Result<(), AllocError>
+    ensures { OnOk result (cells.new.items ≡ cells.old.items ++ (cells_if (reading 16 first.now) ++ cells_if (reading 16 second.now))) }
+{
     push_part(alloc, cells, first)?;
     push_part(alloc, cells, second)
 }
 
-/// The two parts of a word around its first comma. Without a comma both are the whole word.
-fn parts_of(word: &str) -> (&str, &str)
-    ensures first { result.0.now ≡ (parts_around word.now).0 }
-    ensures second { result.1.now ≡ (parts_around word.now).1 }
+/// Adds the cells that a word without a comma spells, once for each of two characters.
+fn push_twice(alloc: Global, cells: &mut Vec<char>, word: &str) -> Result<(), AllocError>
+    ensures { OnOk result (cells.new.items ≡ cells.old.items ++ (cells_if (reading 16 word.now) ++ cells_if (reading 16 word.now))) }
 {
-    match word.split_once(',') {
-        Some(parts) => parts,
-        None => (word, word),
+    match read_dots(alloc, word, 16) {
+        Ok(found) => {
+            push_found(cells, found.as_slice())?;
+            push_found(cells, found.as_slice())
+        }
+        Err(Failure::Fault(_)) => Ok(()),
+        Err(Failure::Memory) => Err(AllocError),
     }
 }
 
@@ -200,8 +215,7 @@ fn push_cells_of(
     if !parts.kept || parts.nofor {
         return Ok(());
     }
-    let chars = chars_or(alloc, parts.words.as_slice(), 1, &[])?;
-    push_given(alloc, cells, given, parts, chars.as_slice())
+    push_given(alloc, cells, given, parts, parts.first_chars())
 }
 
 /// The cells of texts over the alphabet, as characters with their numbers.

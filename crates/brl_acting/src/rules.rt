@@ -1,11 +1,11 @@
 //! The rules of kept lines.
 ghost use Rattle.std.specs.Prelude.{◌≡◌, ◌++◌, IfOk, OnOk, map};
 ghost use Rattle.brl_acting.specs.Readings.{gives_rule as gives_rule_by, is_rule as is_rule_by, rule_at as rule_by, rule_view, rules_of as rules_by};
-ghost use Rattle.brl_acting.specs.Words.{parts_view};
+ghost use Rattle.brl_acting.specs.PartsViews.{parts_view};
 
 use crate::form::Form;
-use crate::operand::{chars_at, word_at};
-use crate::parts::Parts;
+use crate::line_parts::Parts;
+use crate::operand::word_at;
 use std::alloc::{AllocError, Global};
 
 /// A kept rule: its opcode, its characters, its dots as they are written, and the place of its
@@ -45,9 +45,10 @@ fn push_rule<'a>(
         return Ok(());
     }
     let words = parts.words.as_slice();
-    let Some(chars) = chars_at(alloc, words, 1)? else {
+    let Some(chars) = &parts.chars else {
         return Ok(());
     };
+    let chars = Vec::from_slice(alloc, chars.as_slice())?;
     rules.push(Rule {
         opcode: word_at(words, 0),
         chars,

@@ -119,6 +119,9 @@ fn set_of<'a>(alloc: Global, places: &[Place<'a>]) -> Result<IndexSet<Place<'a>>
 fn has_line(places: &IndexSet<Place<'_>>, line: &Line<'_>) -> bool
     ensures { (all : List (List ℕ × ℕ)) → Holds all places.now.keys → result ≡ has_place all (line_place (line_view line.now)) }
 {
+    if places.is_empty() {
+        return false;
+    }
     places.contains(&(line.file, line.line as usize))
 }
 

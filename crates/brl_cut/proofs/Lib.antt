@@ -1,3 +1,9 @@
+pub mod AlikeFiles
+pub mod AlikeLoads
+pub mod AlikeSteps
+pub mod AlikeTexts
+pub mod BareLines
+pub mod BareTables
 pub mod CutLemmas
 pub mod EditLemmas
 pub mod Limits
@@ -5,4 +11,5 @@ pub mod PlaceLemmas
 pub mod RewriteLemmas
 pub mod RoundLemmas
 pub mod SkipLemmas
+pub mod Unedited
 pub mod WholeLines

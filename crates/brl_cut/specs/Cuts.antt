@@ -23,7 +23,7 @@ use Rattle.brl_cut.specs.Rewriting.{Around, RewrittenView, count_rewritten, rewr
 use Rattle.brl_cut.specs.Rounds.{IsUnsettled}
 use Rattle.brl_cut.specs.Settling.{IsSettled, bytes_at, comment, fault_edit, lines_among}
 use Rattle.brl_table.specs.declared.readable.Cut.{Cut}
-use Rattle.brl_cut.specs.declared.cutting.CutTable.{CutTable}
+use Rattle.brl_cut.specs.declared.outcome.CutTable.{CutTable}
 use Rattle.brl_cut.specs.declared.cutting.CutFault.{CutFault}
 use Rattle.brl_cut.specs.declared.cutting.CutFault.TheVariants.{Gather, Load, NotRead}
 

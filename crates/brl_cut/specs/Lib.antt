@@ -1,3 +1,4 @@
+pub mod Alike
 pub mod Contractions
 pub mod Cuts
 pub mod Edits

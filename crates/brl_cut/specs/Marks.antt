@@ -3,7 +3,7 @@ use Rattle.std.specs.Prelude.{ℕ, List, codes, map, string_bytes, zip}
 use Rattle.brl_lines.specs.Lines.{LocationView}
 use Rattle.brl_cut.specs.Edits.{EditView, Texts, edited, prefix_in}
 use Rattle.brl_cut.specs.Files.{file_view}
-use Rattle.brl_cut.specs.declared.cutting.CutTable.{CutTable}
+use Rattle.brl_cut.specs.declared.outcome.CutTable.{CutTable}
 
 -- the mark of the line at a place
 abbrev pub mark : LocationView → EditView

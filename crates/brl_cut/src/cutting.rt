@@ -1,5 +1,7 @@
 //! The readable part of a table.
-ghost use Rattle.std.specs.Prelude.{◌≡◌, ◌++◌, IfErr, IfOk, OnOk, map, string_bytes};
+ghost use Rattle.std.specs.Prelude.{◌≡◌, ◌++◌, IfErr, IfOk, OnOk, map, string_bytes, true};
+ghost use Rattle.std.specs.List.{list_any};
+ghost use Rattle.std.specs.Str.{bytes_eq};
 ghost use Rattle.brl_failure.specs.Failure.{IfFault};
 ghost use Rattle.brl_lines.specs.GatherFaults.{gathered_view};
 ghost use Rattle.brl_lines.specs.Views.{location_view};
@@ -7,14 +9,16 @@ ghost use Rattle.brl_cut.specs.Cuts.{AreWhole, IsCut, IsCutFault, IsCutOf, IsRea
 ghost use Rattle.brl_cut.specs.Letsigns.{made_name};
 ghost use Rattle.brl_cut.specs.Marks.{mark, marked_file, marked_files};
 ghost use Rattle.brl_table.specs.Survey.{faulty_line_view};
-ghost use Rattle.brl_cut.specs.Edits.{edited_files};
+ghost use Rattle.brl_cut.specs.Edits.{edited, edited_files, prefix_in};
 ghost use Rattle.brl_cut.specs.Files.{edit_view, file_view};
 ghost use Rattle.brl_cut.specs.Settling.{fault_edit};
 
+use crate::alike::keep_files;
 use crate::files::{
     BecomesComment, Edit, copies, edit_bytes, edit_files, edits_of, source_of, with_comments,
 };
 use crate::includes::include_faults;
+use crate::outcome::CutTable;
 use crate::placing::{place_files, written_root};
 use crate::rewriting::{Around, MADE_NAME, count_rewritten};
 use crate::rounds::Settled;
@@ -38,17 +42,6 @@ pub enum CutFault {
     /// The written files define no table.
     #[error("{0}")]
     NotRead(NoTable),
-}
-
-/// The files of a table, as they were gathered, its lines, the cut of it, and the table that this
-/// is.
-#[derive(Drop)]
-pub struct CutTable {
-    pub gathered: Gathered,
-    /// All lines of the files, without the include lines that are left out.
-    pub whole: Loaded,
-    pub cut: Cut,
-    pub table: Table,
 }
 
 /// The lines of gathered files, and their cut.
@@ -203,11 +196,13 @@ pub fn cut_table<S: Source>(
         rewrite,
     )?;
     let table = read_written(alloc, cut.files.as_slice(), root, dir)?;
+    let written = written_root(alloc, dir, root)?;
     Ok(CutTable {
         gathered,
         whole,
         cut,
         table,
+        written,
     })
 }
 
@@ -226,8 +221,41 @@ pub fn mark_lines(
     ensures fault { IfErr result (IfFault (IsUnwritten (marked_files (map location_view places.now) of.now) root.now dir.now)) }
 {
     let files = mark_files(alloc, of, places)?;
-    check_written(alloc, files.as_slice(), root, dir)?;
+    check_marked(alloc, of, files.as_slice(), root, dir)?;
     Ok(files)
+}
+
+/// Whether the files of a cut with marks define its table. They are read only where that isn't
+/// plain: where lines that aren't comments are marked, or the cut was made for another folder.
+fn check_marked(
+    alloc: Global,
+    of: &CutTable,
+    files: &[GatheredFile],
+    root: &str,
+    dir: &str,
+) -> Result<(), Failure<CutFault>>
+    ensures read { OnOk result (IsRead (map file_view files.now) (written_root_of dir.now root.now)) }
+    ensures fault { IfErr result (IfFault (IsUnwritten (map file_view files.now) root.now dir.now)) }
+{
+    if is_read_still(alloc, of, files, root, dir)? {
+        return Ok(());
+    }
+    check_written(alloc, files, root, dir)
+}
+
+/// Whether files have the lines of a cut's files, but for comments, and the cut was made for this
+/// folder.
+fn is_read_still(
+    alloc: Global,
+    of: &CutTable,
+    files: &[GatheredFile],
+    root: &str,
+    dir: &str,
+) -> Result<bool, AllocError>
+    ensures { IfOk result (λ is. is ≡ true → IsRead (map file_view files.now) (written_root_of dir.now root.now)) }
+{
+    let written = written_root(alloc, dir, root)?;
+    Ok(of.written.as_str() == written.as_str() && keep_files(of.cut.files.as_slice(), files))
 }
 
 /// Whether these files define a table, whose root has a path before it is written into a folder.
@@ -244,6 +272,29 @@ fn check_written(
     Ok(())
 }
 
+/// Whether one of these marks is of a file that had this path before it was cut.
+fn has_mark(marks: &[Edit], before: &str) -> bool
+    ensures { result ≡ list_any (λ mark. bytes_eq before.now (string_bytes mark.file)) marks.now }
+{
+    marks.iter().any(|mark| before == mark.file.as_str())
+}
+
+/// The bytes of a file with these marks, where it had this path before it was cut.
+fn mark_bytes(
+    alloc: Global,
+    marks: &[Edit],
+    before: &str,
+    bytes: &[u8],
+) -> Result<Vec<u8>, AllocError>
+    ensures { IfOk result (λ new. new.items ≡ edited (prefix_in (map edit_view marks.now) before.now) bytes.now) }
+{
+    if has_mark(marks, before) {
+        edit_bytes(alloc, bytes, marks, before)
+    } else {
+        Vec::from_slice(alloc, bytes)
+    }
+}
+
 /// A file with these marks, where it had this path before it was cut.
 fn mark_file(
     alloc: Global,
@@ -255,7 +306,7 @@ fn mark_file(
 {
     Ok(GatheredFile {
         path: String::from_str(alloc, file.path.as_str())?,
-        bytes: edit_bytes(alloc, file.bytes.as_slice(), marks, before)?,
+        bytes: mark_bytes(alloc, marks, before, file.bytes.as_slice())?,
     })
 }
 

@@ -6,12 +6,14 @@
 //! (`noback`, `base`, `contraction` and `letsign` have the forms, `signs` the cells of indicators,
 //! `putting` what is put before a line), `rounds` surveys files until no line is faulty, `starting`
 //! does both, `includes` has include lines that are left out, `placing` the paths where files are
-//! written, and `cutting` has the whole, and marks lines of it. `load_without_dictionaries` loads a
-//! table without its hyphenation dictionaries.
+//! written, and `cutting` has the whole, which `outcome` is, and marks lines of it; `alike`
+//! compares the files with marks. `load_without_dictionaries` loads a table without its hyphenation
+//! dictionaries.
 //!
 //! Room 1, text and tables (docs/dev/ARCHITECTURE.md). The definitions begin in `specs/Cuts.antt`.
 #![tactic(auto)]
 
+mod alike;
 mod base;
 mod contraction;
 mod cutting;
@@ -19,6 +21,7 @@ mod files;
 mod includes;
 mod letsign;
 mod noback;
+mod outcome;
 mod placing;
 mod putting;
 mod rewriting;
@@ -29,6 +32,7 @@ mod starting;
 mod text;
 
 pub use brl_table::Cut;
-pub use cutting::{CutFault, CutTable, cut_table, mark_lines};
+pub use cutting::{CutFault, cut_table, mark_lines};
+pub use outcome::CutTable;
 pub use placing::written_root;
 pub use skipping::{WithoutDictionaries, load_without_dictionaries};

@@ -10,7 +10,7 @@ use std::alloc::{AllocError, Global};
 use std::collections::BTreeMap;
 
 /// The most bytes of a line without its end.
-const MOST_ROW_BYTES: usize = 2048;
+pub(crate) const MOST_ROW_BYTES: usize = 2048;
 
 /// What a line that is cut off ends with.
 const CUT_OFF: &str = "...";
@@ -90,7 +90,7 @@ fn push_line(
 }
 
 /// Where the line ends that begins at a place of a text: after its line feed, or at the text's end.
-fn line_end(text: &[u8], at: usize) -> usize
+pub(crate) fn line_end(text: &[u8], at: usize) -> usize
     requires { at < length text.now }
     ensures after { at < result }
     ensures within { result ≤ length text.now }
@@ -103,7 +103,7 @@ fn line_end(text: &[u8], at: usize) -> usize
 }
 
 /// A byte order mark at the start of bytes, and what is after it.
-fn split_mark(bytes: &[u8]) -> (&[u8], &[u8])
+pub(crate) fn split_mark(bytes: &[u8]) -> (&[u8], &[u8])
     ensures mark { result.0.now ≡ mark_of bytes.now }
     ensures text { result.1.now ≡ without_mark bytes.now }
 {

@@ -1,6 +1,6 @@
 use Rattle.std.proofs.Common.{◌≡◌, flat_map, map, take}
 use Rattle.brl_acting.specs.Classes.{besides_in}
-use Rattle.brl_acting.specs.Words.{parts_view}
+use Rattle.brl_acting.specs.PartsViews.{parts_view}
 use Rattle.brl_acting.proofs.class_pairs.besides_of.Given as goal
 
 abbrev pub invariant-loop-parts : goal.invariant-loop-parts

@@ -10,9 +10,9 @@ returns c =
     λ j. record {
       names = c.in_ok-names.ensures j;
       met = met j;
-      capitals = c.in_ok-capitals.ensures j;
-      plain_digits = c.in_ok-plain_digits.ensures j;
-      literary_digits = c.in_ok-literary_digits.ensures j;
-      letters = c.in_ok-letters.ensures j;
-      noletsigns = c.in_ok-noletsigns.ensures j;
+      capitals = set_view c.args.all.capitals;
+      plain_digits = set_view c.args.all.plain_digits;
+      literary_digits = set_view c.args.all.literary_digits;
+      letters = set_view c.args.all.letters;
+      noletsigns = set_view c.args.noletsigns;
     }

@@ -1,7 +1,8 @@
 use Rattle.std.proofs.Common.{◌≡◌, ◌∙◌, ap, map}
 use Rattle.brl_acting.specs.Acting.{acting_of}
 use Rattle.brl_acting.specs.Readings.{known_of, known_view}
-use Rattle.brl_acting.specs.Words.{parts_of, parts_view, table_line_view}
+use Rattle.brl_acting.specs.PartsViews.{parts_view}
+use Rattle.brl_acting.specs.Words.{parts_of, table_line_view}
 use Rattle.brl_acting.proofs.judging.acting.Goals as goal
 
 pub returns : goal.returns

@@ -2,7 +2,7 @@ use Rattle.std.proofs.Common.{◌∙◌, ◌<◌, ◌≤◌, ap, arith, length, 
 use Rattle.std.proofs.lemmas.List.{get_or-map, length-map}
 use Rattle.brl_acting.specs.Acting.{acting_at}
 use Rattle.brl_acting.specs.Readings.{known_view}
-use Rattle.brl_acting.specs.Words.{parts_view}
+use Rattle.brl_acting.specs.PartsViews.{parts_view}
 use Rattle.brl_acting.proofs.Enumerated.{all_items, one_more}
 use Rattle.brl_acting.proofs.judging.acting_places.Goals as goal
 

@@ -2,7 +2,7 @@ use Rattle.std.proofs.Common.{◌≡◌, flat_map, map, take}
 use Rattle.std.specs.List.{enumerate_from}
 use Rattle.brl_acting.specs.Acting.{acting_at}
 use Rattle.brl_acting.specs.Readings.{known_view}
-use Rattle.brl_acting.specs.Words.{parts_view}
+use Rattle.brl_acting.specs.PartsViews.{parts_view}
 use Rattle.brl_acting.proofs.judging.acting_places.Given as goal
 
 abbrev pub invariant-loop-place : goal.invariant-loop-place

@@ -2,7 +2,8 @@ use Rattle.std.proofs.Common.{◌≡◌, ◌∙◌, ◌&&◌, Bor, List, ℕ, ap
 use Rattle.std.specs.List.{list_all, list_any}
 use Rattle.brl_acting.specs.Acting.{is_capital_rule, small_act}
 use Rattle.brl_acting.specs.Readings.{known_view}
-use Rattle.brl_acting.specs.Words.{parts_view, word_at}
+use Rattle.brl_acting.specs.PartsViews.{parts_view}
+use Rattle.brl_acting.specs.Words.{word_at}
 use Rattle.brl_acting.proofs.kept.more_act.Goals as goal
 
 pub returns : goal.returns

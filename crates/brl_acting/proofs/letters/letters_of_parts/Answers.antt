@@ -1,7 +1,7 @@
 use Rattle.std.proofs.Common.{◌≡◌, ◌∙◌, ◌&&◌, ◌||◌, ap, codes, map, not}
 use Rattle.brl_acting.specs.Classes.{classes_of, members}
 use Rattle.brl_acting.specs.Sets.{is_in, pair_views, set_view}
-use Rattle.brl_acting.specs.Words.{parts_view}
+use Rattle.brl_acting.specs.PartsViews.{parts_view}
 use Rattle.brl_acting.proofs.letters.letters_of_parts.Goals as goal
 
 pub returns : goal.returns

@@ -1,5 +1,6 @@
 use Rattle.std.proofs.Common.{◌≡◌, map, take}
-use Rattle.brl_acting.specs.Words.{parts_of, parts_view, table_line_view}
+use Rattle.brl_acting.specs.PartsViews.{parts_view}
+use Rattle.brl_acting.specs.Words.{parts_of, table_line_view}
 use Rattle.brl_acting.proofs.parts.parts_of_lines.Given as goal
 
 abbrev pub invariant-loop-line : goal.invariant-loop-line

@@ -2,7 +2,8 @@ use Rattle.std.proofs.Common.{◌∙◌, ◌&&◌, rules, sym, tests}
 use Rattle.std.proofs.lemmas.Iterator.{YieldsList-from_slice}
 use Rattle.std.proofs.lemmas.Iterator.Search.{any_from_yields_List}
 use Rattle.brl_acting.specs.Capitals.{has_opcode}
-use Rattle.brl_acting.specs.Words.{LineParts, parts_view}
+use Rattle.brl_acting.specs.PartsViews.{parts_view}
+use Rattle.brl_acting.specs.Words.{LineParts}
 use Rattle.brl_acting.proofs.Mapped.{list_any-map}
 use Rattle.brl_acting.proofs.readings.keeps.Goals as goal
 

@@ -2,7 +2,7 @@ use Rattle.std.proofs.Common.{◌∙◌, rules, sym, tests}
 use Rattle.std.proofs.lemmas.Iterator.{YieldsList-from_slice}
 use Rattle.std.proofs.lemmas.Iterator.Search.{position_from_yields_List}
 use Rattle.brl_acting.specs.Readings.{is_kept_letsign}
-use Rattle.brl_acting.specs.Words.{parts_view}
+use Rattle.brl_acting.specs.PartsViews.{parts_view}
 use Rattle.brl_acting.proofs.Mapped.{position-map}
 use Rattle.brl_acting.proofs.readings.letsign_of.Goals as goal
 

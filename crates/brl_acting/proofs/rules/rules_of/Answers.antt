@@ -1,7 +1,7 @@
 use Rattle.std.proofs.Common.{◌∙◌, ◌<◌, ◌≤◌, ap, arith, length, map, sym}
 use Rattle.std.proofs.lemmas.List.{get_or-map, length-map}
 use Rattle.brl_acting.specs.Readings.{rule_at, rule_view}
-use Rattle.brl_acting.specs.Words.{parts_view}
+use Rattle.brl_acting.specs.PartsViews.{parts_view}
 use Rattle.brl_acting.proofs.Enumerated.{all_items, one_more}
 use Rattle.brl_acting.proofs.rules.rules_of.Goals as goal
 

@@ -1,7 +1,7 @@
 use Rattle.std.proofs.Common.{◌≡◌, flat_map, map, take}
 use Rattle.std.specs.List.{enumerate_from}
 use Rattle.brl_acting.specs.Readings.{rule_at, rule_view}
-use Rattle.brl_acting.specs.Words.{parts_view}
+use Rattle.brl_acting.specs.PartsViews.{parts_view}
 use Rattle.brl_acting.proofs.rules.rules_of.Given as goal
 
 abbrev pub invariant-loop-place : goal.invariant-loop-place

@@ -6,7 +6,7 @@ use Rattle.brl_lines.specs.Views.{line_view}
 use Rattle.brl_acting.specs.Forms.{form_of}
 use Rattle.brl_acting.specs.Words.{after_prefixes, classes_of_prefixes, prefix_words, word_at, words_of}
 use Rattle.brl_acting.proofs.Mapped.{list_any-map}
-use Rattle.brl_acting.proofs.parts.parts_of.Goals as goal
+use Rattle.brl_acting.proofs.parts.prefixed_parts.Goals as goal
 
 pub returns : goal.returns
 returns c =

@@ -1,0 +1,11 @@
+use Rattle.std.proofs.Common.{◌∙◌, arith, sym}
+use Rattle.brl_cut.proofs.AlikeSteps.{text-ends, text-longer}
+use Rattle.brl_cut.proofs.alike.are_alike.Goals as goal
+
+pub returns-then-there-other : goal.returns-then-there-other
+returns-then-there-other c =
+    sym (text-longer c.args.text.now c.args.other.now c.loop-at.at c.loop-at.there c.loop-at-test.true c.if-there-other.true) ∙ c.loop-at.invariant.same
+
+pub returns : goal.returns
+returns c =
+    sym (text-ends c.args.text.now c.args.other.now c.loop-at.at c.loop-at.there (omega (arith, c.loop-at-test.false)) c.loop-at.invariant.inside) ∙ c.loop-at.invariant.same
