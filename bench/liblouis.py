@@ -6,7 +6,7 @@ from pathlib import Path
 
 sys.dont_write_bytecode = True
 sys.path.insert(0, str(Path(__file__).resolve().parent.parent / "tests"))
-from plain_table import characters
+from spelling import characters
 
 # lou_translate cuts longer lines.
 MOST_CHARACTERS = 500

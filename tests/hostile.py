@@ -312,12 +312,11 @@ def refusal(name: str, cert: str, fault: str) -> Run:
 # A list of the pairs of rules of a table, and the same beside a file of these.
 PAIRS, STALE = "letter a 1 / letter x 1-12\n", "letter a 1 / letter b 12\n"
 SPACES, SET = "space \\s 0\nspace \\t 0\nletter a 1\n", "exchange \\s\\t\n"
-WRITTEN = Run("", ["clashes", "--write", "o", "t.ctb"], {"t.ctb": ALIKE},
-              "small letters: 1 pair of rules diverges, and no others\n  x / ab  1-12  t.ctb:3 letter x  t.ctb:1 letter a\n"
-              "1 pair of rules diverges, and no others\n", 1, written=PAIRS)
+SECTION = "small letters: 1 pair of rules diverges, and no others\n  x / ab  1-12  t.ctb:3 letter x  t.ctb:1 letter a\n"
+WRITTEN = Run("", ["clashes", "--write", "o", "t.ctb"], {"t.ctb": ALIKE}, SECTION + "1 pair of rules diverges, and no others\n", 1, written=PAIRS)
+ACCEPTED_SECTION = "small letters: 0 pairs of rules diverge, and no others but for the accepted ones\n"
 ACCEPTED = Run("", ["clashes", "--accept", "p", "--write", "o", "t.ctb"], {"t.ctb": ALIKE, "p": "# meant\n" + PAIRS},
-               "small letters: 0 pairs of rules diverge, and no others but for the accepted ones\n"
-               "0 pairs of rules diverge, and no others but for the accepted ones\n"
+               ACCEPTED_SECTION + "0 pairs of rules diverge, and no others but for the accepted ones\n"
                "but for: 1 pair of rules, 0 sets of characters\n", written="")
 
 RUNS = [
@@ -337,9 +336,7 @@ RUNS = [
     search("a table with a notice is searched", "letter a 1\nletter a 12\n", "certified: 2 states, 0 pairs\n",
            err="notice DefinedAgain a at t.ctb:2\n", written="BRLCERT 3\n"),
     Run("a limit is passed", ["search", "--limit", "1", "t.ctb", "o"], {"t.ctb": TWO}, "limit: 2 states, 0 pairs\n", 3),
-    Run("clashes are listed", ["clashes", "t.ctb"], {"t.ctb": ALIKE},
-        "small letters: 1 pair of rules diverges, and no others\n  x / ab  1-12  t.ctb:3 letter x  t.ctb:1 letter a\n"
-        "1 pair of rules diverges, and no others\n", 1),
+    Run("clashes are listed", ["clashes", "t.ctb"], {"t.ctb": ALIKE}, WRITTEN.out, 1),
     Run("a set of characters is listed", ["clashes", "t.ctb"], {"t.ctb": SPACES},
         "1 set of characters has the same cells, classes and flags, and is in no rule; "
         "below, its first represents it:\n  0  \\s \\t\n"
@@ -472,12 +469,16 @@ FAILING = [
     failing("a certificate over another can't be written", KEEPING, {"FAIL_FILE": 20}, "U7 CannotWrite o\n", written="kept\n"),
     failing("a certificate can't be put in another's place", KEEPING, {"FAIL_RENAME": 1}, "U7 CannotWrite o\n", written="kept\n"),
     failing("a file of accepted pairs can't be read", ACCEPTED, {"FAIL_READ": 2}, "L2 ReadFailed p\n"),
-    failing("pairs of rules can't be written", WRITTEN, {"FAIL_FILE": 0}, "U7 CannotWrite o\n"),
-    failing("a part of the pairs can't be written", WRITTEN, {"FAIL_FILE": 20}, "U7 CannotWrite o\n"),
-    failing("pairs of rules can't be put in their place", WRITTEN, {"FAIL_RENAME": 1}, "U7 CannotWrite o\n"),
-    failing("stale lines can't be taken out", PRUNING, {"FAIL_FILE": 20}, PRUNING.err + "U7 CannotWrite o\n", written=STALE + PAIRS),
-    failing("a list beside accepted pairs can't be written", PRUNING, {"FAIL_OUTPUT": 0}, PRUNING.err + "U4 OutputFailed\n", written=PAIRS),
-    failing("a list of clashes can't be written", WRITTEN, {"FAIL_OUTPUT": 0}, "U4 OutputFailed\n", written=PAIRS),
+    # A file is written after the sections are printed, and before the verdict.
+    failing("pairs of rules can't be written", WRITTEN, {"FAIL_FILE": 0}, "U7 CannotWrite o\n", SECTION),
+    failing("a part of the pairs can't be written", WRITTEN, {"FAIL_FILE": 20}, "U7 CannotWrite o\n", SECTION),
+    failing("pairs of rules can't be put in their place", WRITTEN, {"FAIL_RENAME": 1}, "U7 CannotWrite o\n", SECTION),
+    failing("stale lines can't be taken out", PRUNING, {"FAIL_FILE": 20}, PRUNING.err + "U7 CannotWrite o\n", ACCEPTED_SECTION, STALE + PAIRS),
+    failing("a section beside accepted pairs can't be printed", PRUNING, {"FAIL_OUTPUT": 0}, "U4 OutputFailed\n", written=STALE + PAIRS),
+    failing("a verdict beside accepted pairs can't be printed", PRUNING, {"FAIL_OUTPUT": len(ACCEPTED_SECTION)}, PRUNING.err + "U4 OutputFailed\n",
+            ACCEPTED_SECTION, PAIRS),
+    failing("a section can't be printed", WRITTEN, {"FAIL_OUTPUT": 0}, "U4 OutputFailed\n"),
+    failing("a verdict after the sections can't be printed", WRITTEN, {"FAIL_OUTPUT": len(SECTION)}, "U4 OutputFailed\n", SECTION, PAIRS),
     failing("a table that is cut can't be read", CUTTING, {"FAIL_READ": 1}, "L2 ReadFailed t.ctb\n"),
     failing("an included file of it can't be read", CUTTING, {"FAIL_READS": 2}, "L2 ReadFailed p/u.cti at t.ctb:1\n"),
     (Run("an included file of it is read the second time", CUTTING.words, WHOLE, CUT_ANSWER, tree=CUT), CUTTING, {"FAIL_READ": 2}),

@@ -6,7 +6,8 @@ set -u
 . "$(dirname "$0")/begin.sh"
 unset DESTDIR
 mkdir "$work/clone" && cd "$work" || exit 2
-mkdir clone/docs && cp -R "$top/install" "$top/man" "$top/completions" clone/ && cp -R "$top/docs/guide" clone/docs/ || exit 2
+mkdir clone/docs clone/bench clone/tests && cp -R "$top/install" "$top/man" "$top/completions" clone/ && cp -R "$top/docs/guide" clone/docs/ || exit 2
+cp "$top/bench/ask-liblouis" "$top/bench/liblouis.py" clone/bench/ && cp "$top/tests/spelling.py" clone/tests/ || exit 2
 mkdir -p clone/tools clone/crates/brl/src && cp "$top/tools/made" clone/tools/ && cp "$top/HANDLES" "$top/crates.txt" clone/ || exit 2
 cp "$top/crates/brl/src/main.rt" clone/crates/brl/src/ || exit 2
 cat >clone/build <<END
@@ -33,7 +34,7 @@ install() {
 
 files='bin/brl
 share/bash-completion/completions/brl
-'$(cd "$top/docs/guide" && ls | sed 's|^|share/doc/brl/|')'
+'$({ cd "$top/docs/guide" && ls && echo ask-liblouis && echo liblouis.py && echo spelling.py; } | sort | sed 's|^|share/doc/brl/|')'
 share/fish/vendor_completions.d/brl.fish
 share/man/man1/brl.1
 share/zsh/site-functions/_brl'
@@ -49,13 +50,15 @@ mkdir place && install place
 [ "$(place/bin/brl --version)" = "$("$program" --version)" ] || fail 'the program runs where it was installed'
 for file in $files; do
     case $file in
-        bin/*) mode=-rwxr-xr-x ;;
+        bin/* | */ask-liblouis) mode=-rwxr-xr-x ;;
         *) mode=-rw-r--r-- ;;
     esac
     [ "$(ls -l "place/$file" | cut -c 1-10)" = "$mode" ] || fail "the permissions of $file"
 done
 cmp -s place/share/man/man1/brl.1 "$top/man/brl.1" && cmp -s place/share/zsh/site-functions/_brl "$top/completions/_brl" || fail 'the man page and the completions'
-diff -r place/share/doc/brl "$top/docs/guide" >out || fail 'the guide'
+diff -r -x ask-liblouis -x '*.py' place/share/doc/brl "$top/docs/guide" >out || fail 'the guide'
+place/share/doc/brl/ask-liblouis >out 2>err
+[ $? = 2 ] && grep -q '^Prints those pairs' err || fail 'the script beside the guide runs where it was installed'
 ok 'into a folder'
 
 # There are a program that is in use, a link into the clone, and a file with another text.

@@ -6,6 +6,8 @@ import re
 from collections.abc import Iterator
 from dataclasses import dataclass, field
 
+from spelling import ESCAPES, characters
+
 # Of rules of one length those of any place but `always` come first, and then the earlier line.
 PLACED_FIRST = True
 
@@ -34,7 +36,6 @@ PLACES = {
     "endword": ((MEETS, LETTER), (MEETS, GAP)), "begnum": ((MEETS, GAP), (MEETS, DIGIT)),
     "midnum": ((MEETS, DIGIT), (MEETS, DIGIT)), "endnum": ((MEETS, DIGIT), (AVOIDS, DIGIT)),
 }
-ESCAPES = {"\\": "\\", "f": "\f", "n": "\n", "r": "\r", "s": " ", "t": "\t", "v": "\v", "e": "\x1b"}
 
 
 class Fault(Exception):
@@ -74,16 +75,6 @@ class Rule:
 def rank(rule: Rule) -> tuple[int, bool, int]:
     """The order of the rules: the first that fits is used."""
     return -len(rule.chars), PLACED_FIRST and rule.place == "always", rule.line
-
-
-def characters(operand: str) -> str:
-    """The characters that an operand spells."""
-
-    def meant(found: re.Match[str]) -> str:
-        mark, digits = found[1], found[2] or found[3] or found[4]
-        return chr(int(digits, 16)) if digits else ESCAPES[mark]
-
-    return re.sub(r"\\(?=(.?))(?:x([0-9a-fA-F]{4})|y([0-9a-fA-F]{5})|z([0-9a-fA-F]{8})|.?)", meant, operand)
 
 
 def cells_of(dots: str) -> list[str]:

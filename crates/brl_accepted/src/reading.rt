@@ -4,10 +4,7 @@ ghost use Rattle.std.specs.Option.{option_copied};
 ghost use Rattle.std.specs.Str.Lines.{lines};
 ghost use Rattle.brl_accepted.specs.FaultText.{fault_view};
 ghost use Rattle.brl_accepted.specs.Reading.{
-  accepted_count as accepted_among,
   excused_by,
-  excused_of as excused_among,
-  is_excused as is_excused_by,
   kept_by,
   names_in,
   names_of,
@@ -64,43 +61,6 @@ pub struct Excusal {
     pub stale: Vec<ExcuseFault>,
     /// Its text without these. Every line ends with LF.
     pub kept: String,
-}
-
-impl Excusal {
-    /// The listed pairs that are excused.
-    pub fn excused_of(
-        &self,
-        alloc: Global,
-        listed: &[(u32, u32)],
-    ) -> Result<Vec<(u32, u32)>, AllocError>
-        ensures { IfOk result (λ pairs. pairs.items ≡ excused_among self.now.excused listed.now) }
-    {
-        let mut pairs = Vec::from_slice(alloc, listed)?;
-        pairs.retain(|pair| self.has(*pair));
-        Ok(pairs)
-    }
-
-    /// Whether a pair of rules is excused, wherever texts diverge at it.
-    fn has(&self, pair: (u32, u32)) -> bool
-        ensures { result ≡ is_excused_by self.now.excused pair }
-    {
-        let Excused {
-            accepted,
-            exchanged,
-        } = &self.excused;
-        accepted.has(pair.0, pair.1) || exchanged.has(pair.0, pair.1)
-    }
-
-    /// How many of the listed pairs lines of their own name.
-    pub fn accepted_count(&self, listed: &[(u32, u32)]) -> usize
-        ensures { result ≡ accepted_among self.now.excused listed.now }
-    {
-        let accepted = &self.excused.accepted;
-        listed
-            .iter()
-            .filter(|pair| accepted.has(pair.0, pair.1))
-            .count()
-    }
 }
 
 /// What the file at a path with this text excuses. A line is blank, a comment that begins with `#`,

@@ -4,6 +4,7 @@ ghost use Rattle.brl_answers.specs.Answers.{HasTextAndStatus, counts_line};
 ghost use Rattle.brl_answers.specs.Delivery.{Delivers, Writes, world};
 ghost use Rattle.brl_answers.specs.Files.{IsPutInto};
 ghost use Rattle.brl_answers.specs.Making.{ArePutInto};
+ghost use Rattle.brl_answers.specs.Status.{status_of};
 
 use crate::Files;
 use crate::making::make_new_files;
@@ -92,8 +93,8 @@ fn write_answer<F: Files, O: Output>(
 }
 
 /// Delivers what a command answers: its files and its text, or the line of its fault on standard
-/// error. With `quiet` there is no line where nobody reads the output any more, as after `| head`.
-/// Answers the status.
+/// error; that may be that what it showed before couldn't be written. With `quiet` there is no line
+/// where nobody reads the output any more, as after `| head`. Answers the status.
 pub fn deliver<F: Files, O: Output, E: Write>(
     alloc: Global,
     outcome: Result<Answer, RunFault>,
@@ -105,13 +106,22 @@ pub fn deliver<F: Files, O: Output, E: Write>(
     ensures { Delivers outcome (world (F.gives files.old) (O.failures out.old) (O.contents out.old))
         (world (F.gives files.new) (O.failures out.new) (O.contents out.new)) result }
 {
-    let answer = match outcome {
-        Ok(answer) => answer,
-        Err(fault) => return fault.report(err),
-    };
-    match write_answer(alloc, answer, files, out) {
-        Ok(status) => status,
-        Err(RunFault::OutputFailed) if quiet && out.is_closed() => Status::Faulty,
-        Err(fault) => fault.report(err),
+    match outcome {
+        Ok(answer) => match write_answer(alloc, answer, files, out) {
+            Ok(status) => status,
+            Err(fault) => report(fault, quiet, out, err),
+        },
+        Err(fault) => report(fault, quiet, out, err),
+    }
+}
+
+/// Writes the line of a fault to standard error, unless the output failed with `quiet` since nobody
+/// reads it any more. Answers the status.
+fn report<O: Output, E: Write>(fault: RunFault, quiet: bool, out: &O, err: &mut E) -> Status
+    ensures { result ≡ status_of fault }
+{
+    match fault {
+        RunFault::OutputFailed if quiet && out.is_closed() => Status::Faulty,
+        fault => fault.report(err),
     }
 }

@@ -4,3 +4,6 @@ mod Lines
 mod Places
 mod Listed
 mod Shown
+pub mod ByPairs
+mod Found
+pub mod Showings

@@ -1,8 +1,9 @@
 -- The lines of one more element, and of one more section.
-use Rattle.std.proofs.Common.{◌≡◌, ◌∙◌, ◌<◌, ◌+◌, ◌++◌, ℕ, Bool, List, [], ◌∷◌, ap, append-nil, append_assoc, get_or, length, refl, sym, take}
+use Rattle.std.proofs.Common.{◌≡◌, ◌∙◌, ◌<◌, ◌+◌, ◌++◌, ℕ, List, [], ◌∷◌, ap, append-nil, append_assoc, get_or, length, refl, sym, take}
 use Rattle.std.specs.List.{flat_map, fold}
 use Rattle.std.proofs.lemmas.List.{take_more}
 use Rattle.std.proofs.lemmas.List.Concat.{flat_map-append}
+use Rattle.brl_clashes.specs.Accepted.{is_less}
 use Rattle.brl_clashes.specs.ClashesText.{AreSectionTexts}
 use Rattle.brl_clashes.specs.SectionText.{IsSectionText}
 use Rattle.brl_clashes.specs.Sections.{listed_after}
@@ -24,14 +25,16 @@ one_more {X} f xs i x front text after within is so_far added =
 -- ---- Sections
 
 -- one more section, after those that are written
-pub one_more_section : (t : TableView) (lines : List LineView) (firsts : FirstsView) (form : ListForm) (taken : Bool) (before : List (ℕ × ℕ)) (sections : List Section) (s : Section) (text part : List ℕ)
-    → AreSectionTexts t lines firsts form taken before sections text → IsSectionText t lines firsts form taken (fold listed_after before sections) s part
-    → AreSectionTexts t lines firsts form taken before (sections ++ s ∷ []) (text ++ part)
-one_more_section t lines firsts form taken before [] s text part are is = (part, [], is, refl, ap (λ (front : List ℕ). front ++ part) are ∙ sym (append-nil part))
-one_more_section t lines firsts form taken before (other ∷ sections) s text part (front, rest, front_is, rest_are, joined) is = (
+pub one_more_section : (t : TableView) (lines : List LineView) (firsts : FirstsView) (form : ListForm) (before : List (ℕ × ℕ)) (sections left : List Section) (s x : Section) (text part : List ℕ)
+    → AreSectionTexts t lines firsts form before sections left text → IsSectionText t lines firsts form (is_less s x) (fold listed_after before left) x part
+    → AreSectionTexts t lines firsts form before (sections ++ s ∷ []) (left ++ x ∷ []) (text ++ part)
+one_more_section t lines firsts form before [] [] s x text part are is = (part, [], is, refl, ap (λ (front : List ℕ). front ++ part) are ∙ sym (append-nil part))
+one_more_section t lines firsts form before [] (other ∷ left) s x text part are is = absurd are
+one_more_section t lines firsts form before (first ∷ sections) [] s x text part are is = absurd are
+one_more_section t lines firsts form before (first ∷ sections) (other ∷ left) s x text part (front, rest, front_is, rest_are, joined) is = (
   front,
   rest ++ part,
   front_is,
-  one_more_section t lines firsts form taken (listed_after before other) sections s rest part rest_are is,
+  one_more_section t lines firsts form (listed_after before other) sections left s x rest part rest_are is,
   ap (λ (all : List ℕ). all ++ part) joined ∙ append_assoc front rest part,
 )

@@ -75,7 +75,7 @@ module _ (t : TableView) (left_out : List ℕ) (limit : ℕ) where
   rule_clashes (Complete list body) are = are.0
   rule_clashes (Partial list states pairs) are = are.0
 
-  of_table : (found : ClashList) → AreListed left_out t limit found → AreClashesOf t (clashes_of found)
+  pub of_table : (found : ClashList) → AreListed left_out t limit found → AreClashesOf t (clashes_of found)
   of_table found (inl are) = λ k d within. ((rule_clashes found are).each k d within).clash.clash
   of_table found (inr none) = subst (AreClashesOf t) (sym none.2) (λ k d within. absurd (omega (arith, within)))
 
@@ -109,50 +109,51 @@ has_kinds (kind ∷ kinds) = (length kinds, refl)
 -- ---- What is left beside accepted pairs
 
 -- the clashes that are left of a list are at the pairs that aren't accepted
-left_clashes : (accepted : List (ℕ × ℕ)) (found left : ClashList) → IsLeftOfList accepted found left → clashes_of left ≡ clashes_beside accepted (clashes_of found)
+left_clashes : (accepted : List (ℕ × ℕ)) (found left : ClashList) → IsLeftOfList (has_pair accepted) found left → clashes_of left ≡ clashes_beside accepted (clashes_of found)
 left_clashes accepted (Complete list body) (Complete left same) is = is.0
 left_clashes accepted (Complete list body) (Partial left states pairs) is = absurd is
 left_clashes accepted (Partial list states pairs) (Partial left as_many of_them) is = is.0
 left_clashes accepted (Partial list states pairs) (Complete left same) is = absurd is
 
-left_whole : (accepted : List (ℕ × ℕ)) (found left : ClashList) → IsLeftOfList accepted found left → is_whole left ≡ is_whole found
-left_whole accepted (Complete list body) (Complete left same) is = refl
-left_whole accepted (Complete list body) (Partial left states pairs) is = absurd is
-left_whole accepted (Partial list states pairs) (Partial left as_many of_them) is = refl
-left_whole accepted (Partial list states pairs) (Complete left same) is = absurd is
+left_whole : (passes : ℕ × ℕ → Bool) (found left : ClashList) → IsLeftOfList passes found left → is_whole left ≡ is_whole found
+left_whole passes (Complete list body) (Complete left same) is = refl
+left_whole passes (Complete list body) (Partial left states pairs) is = absurd is
+left_whole passes (Partial list states pairs) (Partial left as_many of_them) is = refl
+left_whole passes (Partial list states pairs) (Complete left same) is = absurd is
 
 -- what is left at a place is left of the section at that place
-left_at : (accepted : List (ℕ × ℕ)) (sections left : List Section) → AreLeftOf accepted sections left → (place : ℕ) (x : Section) → slice_get left place ≡ Some x
-    → (s : Section) × (slice_get sections place ≡ Some s) × IsLeftOf accepted s x
+left_at : (accepted : List (ℕ × ℕ)) (sections left : List Section) → AreLeftOf (has_pair accepted) sections left → (place : ℕ) (x : Section) → slice_get left place ≡ Some x
+    → (s : Section) × (slice_get sections place ≡ Some s) × IsLeftOf (has_pair accepted) s x
 left_at accepted [] [] are place x there = absurd cc
 left_at accepted [] (y ∷ left) are place x there = absurd are
 left_at accepted (s ∷ sections) [] are place x there = absurd are
-left_at accepted (s ∷ sections) (y ∷ left) are zero x there = let same : y ≡ x = cc in (s, refl, subst (IsLeftOf accepted s) same are.0)
+left_at accepted (s ∷ sections) (y ∷ left) are zero x there = let same : y ≡ x = cc in (s, refl, subst (IsLeftOf (has_pair accepted) s) same are.0)
 left_at accepted (s ∷ sections) (y ∷ left) are (suc place) x there = left_at accepted sections left are.1 place x there
 
-left_length : (accepted : List (ℕ × ℕ)) (sections left : List Section) → AreLeftOf accepted sections left → length left ≡ length sections
+left_length : (accepted : List (ℕ × ℕ)) (sections left : List Section) → AreLeftOf (has_pair accepted) sections left → length left ≡ length sections
 left_length accepted [] [] are = refl
 left_length accepted [] (y ∷ left) are = absurd are
 left_length accepted (s ∷ sections) [] are = absurd are
 left_length accepted (s ∷ sections) (y ∷ left) are = ap suc (left_length accepted sections left are.1)
 
-all_left_whole : (accepted : List (ℕ × ℕ)) (sections left : List Section) → AreLeftOf accepted sections left → are_whole left ≡ are_whole sections
-all_left_whole accepted [] [] are = refl
-all_left_whole accepted [] (y ∷ left) are = absurd are
-all_left_whole accepted (s ∷ sections) [] are = absurd are
-all_left_whole accepted (s ∷ sections) (y ∷ left) are = (λ i. left_whole accepted s.found y.found are.0.1 i && all_left_whole accepted sections left are.1 i)
+pub all_left_whole : (passes : ℕ × ℕ → Bool) (sections left : List Section) → AreLeftOf passes sections left → are_whole left ≡ are_whole sections
+all_left_whole passes [] [] are = refl
+all_left_whole passes [] (y ∷ left) are = absurd are
+all_left_whole passes (s ∷ sections) [] are = absurd are
+all_left_whole passes (s ∷ sections) (y ∷ left) are = (λ i. left_whole passes s.found y.found are.0.1 i && all_left_whole passes sections left are.1 i)
 
 -- each clash that is left is one of those of the list, at a pair that isn't accepted
 all_left : (P : RuleClash → Type 0) (accepted : List (ℕ × ℕ)) (clashes : List RuleClash) → All P clashes → All P (clashes_beside accepted clashes)
 all_left P accepted clashes all = All-filter (λ (clash : RuleClash). not (has_pair accepted (clash.lesser, clash.greater))) P clashes all
 
 -- the texts of the clashes that are left clash by the table
-pub left_are_clashes : (t : TableView) (left_out : List ℕ) (limit : ℕ) (accepted : List (ℕ × ℕ)) (sections left : List Section) → AreSections t left_out limit sections → AreLeftOf accepted sections left
-    → All (λ s. AreClashesOf t (clashes_of s.found)) left
-left_are_clashes t left_out limit accepted sections left are are_left = λ k d within.
-    let (s, there, is) = left_at accepted sections left are_left k (get_or left k d) (slice_get-get_or left k d within) in
-    let P = λ (x : RuleClash). IsClash t x.clash.left x.clash.right x.clash.cells in
-    subst (AreClashesOf t) (sym (left_clashes accepted s.found (get_or left k d).found is.1)) (all_left P accepted (clashes_of s.found) (of_table t (left_out_in t left_out k) limit s.found (are.each k s there).clashes))
+pub left_is_of_table : (t : TableView) (passes : ℕ × ℕ → Bool) (found left : ClashList) → IsLeftOfList passes found left → AreClashesOf t (clashes_of found) → AreClashesOf t (clashes_of left)
+left_is_of_table t passes (Complete list body) (Complete left same) is are =
+    subst (AreClashesOf t) (sym is.0) (All-filter (λ (clash : RuleClash). not (passes (clash.lesser, clash.greater))) (λ (x : RuleClash). IsClash t x.clash.left x.clash.right x.clash.cells) list.items are)
+left_is_of_table t passes (Complete list body) (Partial left states pairs) is are = absurd is
+left_is_of_table t passes (Partial list states pairs) (Partial left as_many of_them) is are =
+    subst (AreClashesOf t) (sym is.0) (All-filter (λ (clash : RuleClash). not (passes (clash.lesser, clash.greater))) (λ (x : RuleClash). IsClash t x.clash.left x.clash.right x.clash.cells) list.items are)
+left_is_of_table t passes (Partial list states pairs) (Complete left same) is are = absurd is
 
 -- ---- A table whose clashes are all accepted
 
@@ -188,7 +189,7 @@ all_accepted accepted (x ∷ list) none r s has = cases (has_pair accepted (x.le
     cases false other later rest = absurd cc
 
 -- a whole list of which no clash is left
-none_left : (left_out : List ℕ) (t : TableView) (limit : ℕ) (accepted : List (ℕ × ℕ)) (found left : ClashList) → AreClashes left_out t limit found → IsLeftOfList accepted found left → is_whole left ≡ true → lists_none left ≡ true
+none_left : (left_out : List ℕ) (t : TableView) (limit : ℕ) (accepted : List (ℕ × ℕ)) (found left : ClashList) → AreClashes left_out t limit found → IsLeftOfList (has_pair accepted) found left → is_whole left ≡ true → lists_none left ≡ true
     → ClashesDivergeAtWithout left_out accepted t
 none_left left_out t limit accepted (Partial list states pairs) (Partial left as_many of_them) are is whole none = absurd cc
 none_left left_out t limit accepted (Partial list states pairs) (Complete left same) are is whole none = absurd is
@@ -199,16 +200,15 @@ none_left left_out t limit accepted (Complete list body) (Complete left same) ar
 
 -- where all sections are whole and no clash is left of them, clashing texts diverge at accepted
 -- pairs
-pub only_accepted : (t : TableView) (left_out : List ℕ) (limit : ℕ) (accepted : List (ℕ × ℕ)) (sections left : List Section) → AreSections t left_out limit sections → AreLeftOf accepted sections left
+pub only_accepted : (t : TableView) (left_out : List ℕ) (limit : ℕ) (accepted : List (ℕ × ℕ)) (sections left : List Section) → AreSections t left_out limit sections → AreLeftOf (has_pair accepted) sections left
     → outcome_of left ≡ Unambiguous → ClashesDivergeAtWithout left_out accepted t
 only_accepted t left_out limit accepted sections left are are_left is =
     let (whole, none) = none_listed (are_whole left) (list_all (λ s. lists_none s.found) left) is in
     let (n, many) = has_kinds (kinds_among t (kept t left_out)) in
-    let all_whole : are_whole sections ≡ true = sym (all_left_whole accepted sections left are_left) ∙ whole in
+    let all_whole : are_whole sections ≡ true = sym (all_left_whole (has_pair accepted) sections left are_left) ∙ whole in
     let (x, there) = last_of left n (left_length accepted sections left are_left ∙ are.all all_whole ∙ many) in
     let (s, at, of) = left_at accepted sections left are_left n x there in
-    let place : n ≡ length (section_kinds t left_out) - 1 = omega (arith, many) in
-    let found = are.last s (subst (λ (k : ℕ). slice_get sections k ≡ Some s) place at) in
+    let found = (are.first n s at).all (omega (arith, many)) in
     none_left left_out t limit accepted s.found x.found found of.1 (passed (λ (y : Section). is_whole y.found) left whole n x there) (passed (λ (y : Section). lists_none y.found) left none n x there)
 
 -- where none are accepted, no texts clash
@@ -242,14 +242,18 @@ all_beside : (list : List RuleClash) → list ≡ clashes_beside [] list
 all_beside [] = refl
 all_beside (x ∷ list) = ap (λ (others : List RuleClash). x ∷ others) (all_beside list)
 
-whole_left : (found : ClashList) → IsLeftOfList [] found found
+whole_left : (found : ClashList) → IsLeftOfList (has_pair []) found found
 whole_left (Complete list body) = (all_beside list.items, refl)
 whole_left (Partial list states pairs) = (all_beside list.items, refl, refl)
 
+-- where a whole list has no pair of rules, no two texts clash
+pub no_clashes : (t : TableView) (left_out : List ℕ) (limit : ℕ) (found : ClashList) → AreClashes left_out t limit found → is_whole found ≡ true → lists_none found ≡ true → IsUnambiguousWithout left_out t
+no_clashes t left_out limit found are whole none = none_clash t left_out (none_left left_out t limit [] found found are (whole_left found) whole none)
+
 -- where no two texts clash, no two clash that use none of more characters
-pub none_without : (t : TableView) (left_out more : List ℕ) (limit : ℕ) (found : ClashList) → AreClashes left_out t limit found → is_whole found ≡ true → lists_none found ≡ true → IsUnambiguousWithout (left_out ++ more) t
-none_without t left_out more limit found are whole none = λ left right left_is right_is left_none right_none same.
-    none_clash t left_out (none_left left_out t limit [] found found are (whole_left found) whole none) left right left_is right_is (fewer left_out more left left_none) (fewer left_out more right right_none) same
+pub narrower : (t : TableView) (left_out more : List ℕ) → IsUnambiguousWithout left_out t → IsUnambiguousWithout (left_out ++ more) t
+narrower t left_out more unambiguous = λ left right left_is right_is left_none right_none same.
+    unambiguous left right left_is right_is (fewer left_out more left left_none) (fewer left_out more right right_none) same
 
 -- where a clash is left of a list, the list has clashes of the table
 some_clashes : (t : TableView) (left_out : List ℕ) (limit : ℕ) (accepted : List (ℕ × ℕ)) (found : ClashList) (left : List RuleClash) → left ≡ clashes_beside accepted (clashes_of found) → (length left == 0) ≡ false
@@ -271,13 +275,13 @@ first_left left_out t accepted list (x ∷ left) is some are =
 
 -- where a section has a clash that is left, two texts clash and diverge at a pair that isn't
 -- accepted
-pub other_clash : (t : TableView) (left_out : List ℕ) (limit : ℕ) (accepted : List (ℕ × ℕ)) (sections left : List Section) → AreSections t left_out limit sections → AreLeftOf accepted sections left
+pub other_clash : (t : TableView) (left_out : List ℕ) (limit : ℕ) (accepted : List (ℕ × ℕ)) (sections left : List Section) → AreSections t left_out limit sections → AreLeftOf (has_pair accepted) sections left
     → outcome_of left ≡ Clashing → (r s : ℕ) × ClashesDiverge left_out t r s × (has_pair accepted (r, s) ≡ false)
 other_clash t left_out limit accepted sections left are are_left is =
     let some = some_listed (are_whole left) (list_all (λ s. lists_none s.found) left) is in
     let (place, x, there, lists) = failed (λ (y : Section). lists_none y.found) left some in
     let (s, at, of) = left_at accepted sections left are_left place x there in
-    let section = are.each place s at in
+    let section = are.first place s at in
     let (clash, is_clash, other) = first_left (left_out_in t left_out place) t accepted (clashes_of s.found) (clashes_of x.found) (left_clashes accepted s.found x.found of.1) lists
     (some_clashes t (left_out_in t left_out place) limit accepted s.found (clashes_of x.found) (left_clashes accepted s.found x.found of.1) lists section.clashes) in (
       clash.lesser,
@@ -295,7 +299,7 @@ other_clash t left_out limit accepted sections left are are_left is =
 -- ---- No accepted pairs
 
 -- where no pairs are accepted, all of the sections is left
-all_are_left : (sections : List Section) → AreLeftOf [] sections sections
+all_are_left : (sections : List Section) → AreLeftOf (has_pair []) sections sections
 all_are_left [] = tt
 all_are_left (s ∷ sections) = ((refl, whole_left s.found), all_are_left sections)
 

@@ -1,8 +1,8 @@
 -- Sections without the clashes at accepted pairs of rules. The project's own choice.
-use Rattle.std.specs.Prelude.{ℕ, ◌≡◌, ◌==◌, Bool, true, false, if◌then◌else◌, List, [], ◌∷◌, ◌++◌, Option, None, Some, codes, nat_lt}
+use Rattle.std.specs.Prelude.{ℕ, ◌≡◌, ◌==◌, Bool, true, false, if◌then◌else◌, List, [], ◌∷◌, ◌++◌, Option, None, Some, codes, length, nat_lt}
 use Rattle.std.specs.Fmt.{decimal}
 use Rattle.brl_accepted.specs.Counting.{but_for_line}
-use Rattle.brl_clashes.specs.Sections.{clashes_beside}
+use Rattle.brl_clashes.specs.Sections.{clashes_but, clashes_of}
 use Rattle.brl_clashes.specs.declared.accepted.Taken.{Taken}
 use Rattle.brl_clashes.specs.declared.section.Section.{Section}
 use Rattle.brl_clashes.specs.declared.verdict.ListOutcome.{ListOutcome}
@@ -12,22 +12,26 @@ use Rattle.brl_search.specs.declared.table_clashes.ClashList.TheVariants.{Comple
 
 -- ---- What is left
 
--- what is left of a list without the clashes at accepted pairs: those at the other pairs, and what
--- the list rests on
-abbrev pub IsLeftOfList : List (ℕ × ℕ) → ClashList → ClashList → Type 0
-IsLeftOfList accepted (Complete list body) (Complete left same) = (left.items ≡ clashes_beside accepted list.items) × (same ≡ body)
-IsLeftOfList accepted (Partial list states pairs) (Partial left as_many of_them) = (left.items ≡ clashes_beside accepted list.items) × (as_many ≡ states) × (of_them ≡ pairs)
-IsLeftOfList accepted found left = ⊥
+-- what is left of a list without the clashes at pairs that pass a test: those at the other pairs,
+-- and what the list rests on
+abbrev pub IsLeftOfList : (ℕ × ℕ → Bool) → ClashList → ClashList → Type 0
+IsLeftOfList passes (Complete list body) (Complete left same) = (left.items ≡ clashes_but passes list.items) × (same ≡ body)
+IsLeftOfList passes (Partial list states pairs) (Partial left as_many of_them) = (left.items ≡ clashes_but passes list.items) × (as_many ≡ states) × (of_them ≡ pairs)
+IsLeftOfList passes found left = ⊥
 
 -- what is left of a section
-abbrev pub IsLeftOf : List (ℕ × ℕ) → Section → Section → Type 0
-IsLeftOf accepted s left = (left.kind ≡ s.kind) × IsLeftOfList accepted s.found left.found
+abbrev pub IsLeftOf : (ℕ × ℕ → Bool) → Section → Section → Type 0
+IsLeftOf passes s left = (left.kind ≡ s.kind) × IsLeftOfList passes s.found left.found
 
 -- what is left of each of these sections, in order
-abbrev pub AreLeftOf : List (ℕ × ℕ) → List Section → List Section → Type 0
-AreLeftOf accepted [] [] = Unit {0}
-AreLeftOf accepted (s ∷ sections) (x ∷ left) = IsLeftOf accepted s x × AreLeftOf accepted sections left
-AreLeftOf accepted sections left = ⊥
+abbrev pub AreLeftOf : (ℕ × ℕ → Bool) → List Section → List Section → Type 0
+AreLeftOf passes [] [] = Unit {0}
+AreLeftOf passes (s ∷ sections) (x ∷ left) = IsLeftOf passes s x × AreLeftOf passes sections left
+AreLeftOf passes sections left = ⊥
+
+-- whether a clash of a section isn't left
+abbrev pub is_less : Section → Section → Bool
+is_less s left = nat_lt (length (clashes_of left.found)) (length (clashes_of s.found))
 
 -- ---- What is reported
 

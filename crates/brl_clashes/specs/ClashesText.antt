@@ -1,13 +1,13 @@
 -- The text of a list of clashes: the sets of characters, its sections, and a verdict. The project's
 -- own choice.
-use Rattle.std.specs.Prelude.{ℕ, ◌≡◌, ◌-◌, ◌==◌, Bool, true, false, if◌then◌else◌, List, [], ◌∷◌, ◌++◌, Option, codes, flat_map, length, nat_lt, slice_get}
+use Rattle.std.specs.Prelude.{ℕ, ◌≡◌, ◌-◌, ◌==◌, Bool, true, false, if◌then◌else◌, List, [], ◌∷◌, ◌++◌, Option, codes, flat_map, length, nat_lt, option_map, slice_get}
 use Rattle.std.specs.Fmt.{decimal}
 use Rattle.std.specs.Option.{option_map_or}
 use Rattle.brl_answers.specs.Answers.{counts_line, spelled_one_by_one, with_alphabet_line}
 use Rattle.brl_cells.specs.Dots.{spelling}
-use Rattle.brl_without.specs.Alphabet.{AlphabetView, left_out_by}
+use Rattle.brl_without.specs.Alphabet.{AlphabetView}
 use Rattle.brl_clashes.specs.Columns.{column_names}
-use Rattle.brl_clashes.specs.Accepted.{accepted_count, accepted_lines, are_taken, outcome_beside}
+use Rattle.brl_clashes.specs.Accepted.{accepted_count, accepted_lines, are_taken, is_less, outcome_beside}
 use Rattle.brl_clashes.specs.SectionText.{IsSectionText, others_note, pairs_words}
 use Rattle.brl_clashes.specs.Sections.{listed_after, listed_pairs, outcome_of}
 use Rattle.brl_clashes.specs.Sets.{FirstsView, firsts_of, openers, plain, set_among}
@@ -67,14 +67,18 @@ sets_in (Columns key) t characters = []
 
 -- ---- The verdict
 
--- how many states and pairs a list rests on, after a word
-abbrev pub counts_of : List ℕ → ClashList → List ℕ
-counts_of word (Complete list body) = counts_line word (length body.states) (length body.pairs)
-counts_of word (Partial list states pairs) = counts_line word states pairs
+-- on how many states and pairs a list rests
+abbrev pub counts_of : ClashList → ℕ × ℕ
+counts_of (Complete list body) = (length body.states, length body.pairs)
+counts_of (Partial list states pairs) = (states, pairs)
 
--- how many states and pairs the last of these sections rests on, after a word
-abbrev pub last_counts : List ℕ → List Section → List ℕ
-last_counts word sections = option_map_or (λ s. counts_of word s.found) (slice_get sections (length sections - 1)) []
+-- on how many the last of these sections rests
+abbrev pub last_counts : List Section → Option (ℕ × ℕ)
+last_counts sections = option_map (λ s. counts_of s.found) (slice_get sections (length sections - 1))
+
+-- these numbers after a word, where there are some
+abbrev pub counts_after : List ℕ → Option (ℕ × ℕ) → List ℕ
+counts_after word counts = option_map_or (λ own. counts_line word own.0 own.1) counts []
 
 -- how many pairs of rules there are, and whether there may be others
 abbrev pub pairs_line : Bool → ℕ → Bool → List ℕ
@@ -82,10 +86,10 @@ pairs_line taken count whole = decimal count ++ (pairs_words count ++ (others_no
 
 -- the counts that are reported: of a table that is unambiguous, and those at which a limit was
 -- passed
-abbrev pub verdict_counts : ListOutcome → List Section → List ℕ
-verdict_counts Unambiguous sections = last_counts (codes "unambiguous") sections
-verdict_counts Clashing sections = []
-verdict_counts Unfinished sections = last_counts (codes "limit") sections
+abbrev pub verdict_counts : ListOutcome → Option (ℕ × ℕ) → List ℕ
+verdict_counts Unambiguous counts = counts_after (codes "unambiguous") counts
+verdict_counts Clashing counts = []
+verdict_counts Unfinished counts = counts_after (codes "limit") counts
 
 -- how many pairs of rules diverge, where some are listed
 abbrev pub verdict_pairs : Bool → ListOutcome → ℕ → List ℕ
@@ -93,24 +97,31 @@ verdict_pairs taken Unambiguous count = []
 verdict_pairs taken Clashing count = pairs_line taken count true
 verdict_pairs taken Unfinished count = pairs_line taken count false
 
--- the last lines for this outcome: the table is unambiguous, or this many pairs of rules diverge
-abbrev pub outcome_text : Bool → ListOutcome → List Section → List ℕ
-outcome_text taken outcome sections = verdict_counts outcome sections ++ verdict_pairs taken outcome (length (listed_pairs sections))
+-- the last lines for this outcome and these counts: the table is unambiguous, or this many pairs of
+-- rules diverge
+abbrev pub outcome_text : Bool → ListOutcome → Option (ℕ × ℕ) → ℕ → List ℕ
+outcome_text taken outcome counts number = verdict_counts outcome counts ++ verdict_pairs taken outcome number
 
--- the verdict lines of a list with these sections; where a file was read, the list leaves out the
--- pairs that it accepts, and the lines say how many
+-- the verdict lines for an outcome; where a file was read, the list leaves out the pairs that it
+-- accepts, and the lines say how many
+abbrev pub verdict_by : Option Taken → ListOutcome → Option (ℕ × ℕ) → ℕ → List ℕ
+verdict_by accepted outcome counts number =
+    outcome_text (are_taken accepted) (outcome_beside (accepted_count accepted) outcome) counts number ++ accepted_lines accepted
+
+-- the verdict lines of a list with these sections
 abbrev pub verdict_text : Option Taken → List Section → List ℕ
-verdict_text accepted sections =
-    outcome_text (are_taken accepted) (outcome_beside (accepted_count accepted) (outcome_of sections)) sections ++ accepted_lines accepted
+verdict_text accepted sections = verdict_by accepted (outcome_of sections) (last_counts sections) (length (listed_pairs sections))
 
 -- ---- The whole text
 
--- the texts of sections, one after another, after sections with these pairs of rules
-abbrev pub AreSectionTexts : TableView → List LineView → FirstsView → ListForm → Bool → List (ℕ × ℕ) → List Section → List ℕ → Type 0
-AreSectionTexts t lines firsts form taken before [] text = text ≡ []
-AreSectionTexts t lines firsts form taken before (s ∷ sections) text =
-    (front rest : List ℕ) × IsSectionText t lines firsts form taken before s front
-    × AreSectionTexts t lines firsts form taken (listed_after before s) sections rest × (text ≡ front ++ rest)
+-- the texts of what is left of sections, one after another, after sections with these pairs of
+-- rules
+abbrev pub AreSectionTexts : TableView → List LineView → FirstsView → ListForm → List (ℕ × ℕ) → List Section → List Section → List ℕ → Type 0
+AreSectionTexts t lines firsts form before [] [] text = text ≡ []
+AreSectionTexts t lines firsts form before (s ∷ sections) (x ∷ left) text =
+    (front rest : List ℕ) × IsSectionText t lines firsts form (is_less s x) before x front
+    × AreSectionTexts t lines firsts form (listed_after before x) sections left rest × (text ≡ front ++ rest)
+AreSectionTexts t lines firsts form before sections left text = ⊥
 
 -- what comes before a list is nothing; before columns it is their names, and where pairs are shown
 -- by their kinds, the lines of likely slips, which are any text
@@ -125,10 +136,14 @@ abbrev pub last_lines : ListForm → AlphabetView → List ℕ → List ℕ
 last_lines (Columns key) alphabet verdict = []
 last_lines form alphabet verdict = with_alphabet_line alphabet verdict
 
--- The text of a list of clashes: what comes before it, the sets of characters, the sections, and
--- the verdict with the line that names the characters of texts. Where a file accepts pairs, they
--- are left out of the sections, and the verdict says how much the file excuses.
-abbrev pub IsClashesText : TableView → List LineView → AlphabetView → ListForm → Option Taken → List Section → List ℕ → Type 0
-IsClashesText t lines alphabet form accepted sections text = let plain = plain t (left_out_by t alphabet) in
-    (top parts : List ℕ) × IsTop form top × AreSectionTexts t lines (firsts_of t plain) form (are_taken accepted) [] sections parts
-    × (text ≡ top ++ sets_in form t plain ++ parts ++ last_lines form alphabet (verdict_text accepted sections))
+-- what comes before the sections in a form: the likely slips or the names of columns, and the sets
+-- of characters
+abbrev pub IsHead : TableView → List ℕ → ListForm → List ℕ → Type 0
+IsHead t left_out form text = (top : List ℕ) × IsTop form top × (text ≡ top ++ sets_in form t (plain t left_out))
+
+-- The text of a list of clashes up to its verdict: what comes before the sections, and what is left
+-- of these beside what a file accepts.
+abbrev pub IsListText : TableView → List LineView → List ℕ → ListForm → List Section → List Section → List ℕ → Type 0
+IsListText t lines left_out form sections left text =
+    (head parts : List ℕ) × IsHead t left_out form head
+    × AreSectionTexts t lines (firsts_of t (plain t left_out)) form [] sections left parts × (text ≡ head ++ parts)

@@ -56,8 +56,11 @@ kind_columns section kind = kind_name section ++ (codes "\t" ++ key_of kind)
 abbrev pub clash_columns : RuleClash → List ℕ
 clash_columns x = text_column x.clash.left ++ (text_column x.clash.right ++ (codes "\t" ++ spelling x.clash.cells))
 
--- the line of a clash: its section, its kind, its texts, their cells in dots, and its two rules,
--- the one with the lesser number first
+-- the columns of the two rules of a clash, the one with the lesser number first, and the end of the
+-- line
+abbrev pub rules_columns : TableView → List LineView → RuleClash → List ℕ
+rules_columns t lines x = rule_columns t lines x.lesser ++ (rule_columns t lines x.greater ++ codes "\n")
+
+-- the line of a clash: its section, its kind, its texts, their cells in dots, and its two rules
 abbrev pub column_line : TableView → List LineView → FirstsView → List (ℕ × ℕ) → Kind → RuleClash → List ℕ
-column_line t lines firsts listed kind x =
-    kind_columns kind (kind_of t firsts listed x) ++ (clash_columns x ++ (rule_columns t lines x.lesser ++ (rule_columns t lines x.greater ++ codes "\n")))
+column_line t lines firsts listed kind x = kind_columns kind (kind_of t firsts listed x) ++ (clash_columns x ++ rules_columns t lines x)

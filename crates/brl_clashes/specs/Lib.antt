@@ -9,3 +9,5 @@ pub mod ListedPairs
 pub mod PairKinds
 pub mod Columns
 pub mod Screen
+pub mod Showing
+pub mod Finding

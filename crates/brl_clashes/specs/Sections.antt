@@ -1,6 +1,6 @@
 -- The sections of a list of clashes: what is found for the texts of some kinds of characters, and
 -- of one kind more in each section. The project's own choice.
-use Rattle.std.specs.Prelude.{ℕ, ◌≡◌, ◌-◌, ◌==◌, ◌⊎◌, All, Bool, true, false, if◌then◌else◌, IsTrue, List, [], ◌++◌, Some, length, not, slice_get}
+use Rattle.std.specs.Prelude.{ℕ, ◌≡◌, ◌+◌, ◌==◌, ◌⊎◌, All, Bool, true, false, if◌then◌else◌, IsTrue, List, [], ◌++◌, Some, length, not, slice_get}
 use Rattle.std.specs.List.{filter, fold, list_all}
 use Rattle.brl_clashes.specs.Kinds.{left_out_in, section_kinds}
 use Rattle.brl_clashes.specs.ListedPairs.{has_pair}
@@ -39,9 +39,13 @@ lists_none found = length (clashes_of found) == 0
 abbrev pub list_none : List Section → Bool
 list_none sections = list_all (λ s. lists_none s.found) sections
 
+-- the clashes that are at no pair of rules that passes a test
+abbrev pub clashes_but : (ℕ × ℕ → Bool) → List RuleClash → List RuleClash
+clashes_but passes clashes = filter (λ clash. not (passes (clash.lesser, clash.greater))) clashes
+
 -- the clashes that are at none of some pairs of rules
 abbrev pub clashes_beside : List (ℕ × ℕ) → List RuleClash → List RuleClash
-clashes_beside pairs clashes = filter (λ clash. not (has_pair pairs (clash.lesser, clash.greater))) clashes
+clashes_beside pairs clashes = clashes_but (has_pair pairs) clashes
 
 -- the clashes of a section at pairs of rules that aren't among those of the sections before it
 abbrev pub new_in : List (ℕ × ℕ) → Section → List RuleClash
@@ -55,10 +59,14 @@ listed_after before s = before ++ rules_of_clashes (new_in before s)
 abbrev pub listed_pairs : List Section → List (ℕ × ℕ)
 listed_pairs sections = fold listed_after [] sections
 
--- the outcome of sections: there is no pair of rules; or these, and no others; or maybe others
+-- the outcome of sections, which may be whole and list no pair of rules: there is no pair; or
+-- these, and no others; or maybe others
+abbrev pub outcome_by : Bool → Bool → ListOutcome
+outcome_by whole none = if whole then (if none then Unambiguous else Clashing) else Unfinished
+
+-- the outcome of these sections
 abbrev pub outcome_of : List Section → ListOutcome
-outcome_of sections =
-    if are_whole sections then (if list_none sections then Unambiguous else Clashing) else Unfinished
+outcome_of sections = outcome_by (are_whole sections) (list_none sections)
 
 -- the texts of each of these clashes clash by a table
 abbrev pub AreClashesOf : TableView → List RuleClash → Type 0
@@ -73,14 +81,17 @@ AreListed left_out t limit found =
     AreClashes left_out t limit found ⊎ (IsUnambiguousWithout left_out t × (is_whole found ≡ true) × (clashes_of found ≡ []))
 
 -- the section with this number, from 0: its kind, and what is found for the texts that use neither
--- what is left out nor a character of a later section
+-- what is left out nor a character of a later section; the last one is the list of all texts
 pub record IsSection (t : TableView) (left_out : List ℕ) (limit place : ℕ) (s : Section) : Type 0 where
   pub kind : slice_get (section_kinds t left_out) place ≡ Some s.kind
   pub clashes : AreListed (left_out_in t left_out place) t limit s.found
+  pub all : place + 1 ≡ length (section_kinds t left_out) → AreClashes left_out t limit s.found
 
--- these are the sections of a table; where all are whole, none is missing, and the last one is the
--- list of all texts
+-- these are the first sections of a table
+abbrev pub AreFirst : TableView → List ℕ → ℕ → List Section → Type 0
+AreFirst t left_out limit sections = (place : ℕ) (s : Section) → slice_get sections place ≡ Some s → IsSection t left_out limit place s
+
+-- these are the sections of a table; where all are whole, none is missing
 pub record AreSections (t : TableView) (left_out : List ℕ) (limit : ℕ) (sections : List Section) : Type 0 where
-  pub each : (place : ℕ) (s : Section) → slice_get sections place ≡ Some s → IsSection t left_out limit place s
+  pub first : AreFirst t left_out limit sections
   pub all : IsTrue (are_whole sections) → length sections ≡ length (section_kinds t left_out)
-  pub last : (s : Section) → slice_get sections (length (section_kinds t left_out) - 1) ≡ Some s → AreClashes left_out t limit s.found

@@ -1,14 +1,15 @@
-//! The pairs of rules that sections list, and sections without those that are accepted.
-ghost use Rattle.std.specs.Prelude.{◌≡◌, ◌++◌, [], IfOk, OnOk, map};
-ghost use Rattle.brl_clashes.specs.Accepted.{AreLeftOf, IsLeftOf, IsLeftOfList};
-ghost use Rattle.brl_clashes.specs.Sections.{clashes_beside, listed_after, listed_pairs};
+//! The pairs of rules that a section lists, and a section without those that are excused.
+ghost use Rattle.std.specs.Prelude.{◌≡◌, ◌++◌, IfOk, OnOk};
+ghost use Rattle.brl_accepted.specs.Reading.{is_excused as is_excused_by};
+ghost use Rattle.brl_clashes.specs.Accepted.{IsLeftOf, IsLeftOfList};
+ghost use Rattle.brl_clashes.specs.Sections.{clashes_beside, clashes_but, listed_after};
 ghost use Rattle.brl_search.specs.Clashes.{rules_of_clashes};
 
 use crate::Section;
 use crate::listed_pairs::ListedPairs;
 use crate::section::clashes_of;
-use crate::section_text::new_clashes;
-use brl_accepted::Counts;
+use brl_accepted::{Counts, is_excused};
+use brl_pairs::Excused;
 use brl_search::{ClashList, RuleClash};
 use std::alloc::{AllocError, Global};
 
@@ -25,19 +26,8 @@ pub struct Taken {
     pub pruned: bool,
 }
 
-/// The pairs of rules that these sections list, each once.
-pub fn pairs_of_sections(alloc: Global, sections: &[Section]) -> Result<Vec<(u32, u32)>, AllocError>
-    ensures { IfOk result (λ pairs. pairs.items ≡ listed_pairs sections.now) }
-{
-    let mut listed = ListedPairs::new(alloc);
-    for section in sections {
-        push_section(alloc, &mut listed, section)?;
-    }
-    listed.to_vec(alloc)
-}
-
 /// Lists those pairs of rules of a section that aren't listed.
-fn push_section(
+pub fn push_section(
     alloc: Global,
     listed: &mut ListedPairs,
     section: &Section,
@@ -76,63 +66,44 @@ fn push_pairs(listed: &mut ListedPairs, pairs: &[(u32, u32)]) -> Result<(), Allo
     Ok(())
 }
 
-/// These sections without the clashes at accepted pairs of rules.
-pub fn without_accepted(
-    alloc: Global,
-    accepted: &[(u32, u32)],
-    sections: Vec<Section>,
-) -> Result<Vec<Section>, AllocError>
-    ensures { IfOk result (λ left. AreLeftOf accepted.now sections.items left.items) }
-{
-    let mut pairs = ListedPairs::new(alloc);
-    push_pairs(&mut pairs, accepted)?;
-    sections_beside(alloc, &pairs, sections)
-}
-
-/// These sections without the clashes at some pairs of rules.
-fn sections_beside(
-    alloc: Global,
-    pairs: &ListedPairs,
-    sections: Vec<Section>,
-) -> Result<Vec<Section>, AllocError>
-    ensures { IfOk result (λ left. AreLeftOf pairs.now sections.items left.items) }
-{
-    let mut left = Vec::new(alloc);
-    for section in sections {
-        left.push(section_beside(pairs, section))?;
-    }
-    Ok(left)
-}
-
-/// A section without the clashes at some pairs of rules.
-fn section_beside(pairs: &ListedPairs, section: Section) -> Section
-    ensures { IsLeftOf pairs.now section result }
+/// What is left of a section without the clashes at pairs of rules that are excused.
+pub fn left_of(excused: &Excused, section: Section) -> Section
+    ensures { IsLeftOf (is_excused_by excused.now) section result }
 {
     let Section { kind, found } = section;
-    let found = list_beside(pairs, found);
+    let found = left_of_list(excused, found);
     Section { kind, found }
 }
 
-/// A list without the clashes at some pairs of rules.
-fn list_beside(pairs: &ListedPairs, found: ClashList) -> ClashList
-    ensures { IsLeftOfList pairs.now found result }
+/// What is left of a list without the clashes at pairs of rules that are excused.
+fn left_of_list(excused: &Excused, found: ClashList) -> ClashList
+    ensures { IsLeftOfList (is_excused_by excused.now) found result }
 {
     match found {
         ClashList::Complete { list, body } => {
-            let list = new_clashes(pairs, list);
+            let list = others(excused, list);
             ClashList::Complete { list, body }
         }
         ClashList::Partial {
             list,
             states,
-            pairs: found_pairs,
+            pairs,
         } => {
-            let list = new_clashes(pairs, list);
+            let list = others(excused, list);
             ClashList::Partial {
                 list,
                 states,
-                pairs: found_pairs,
+                pairs,
             }
         }
     }
+}
+
+/// The clashes at pairs of rules that aren't excused.
+fn others(excused: &Excused, clashes: Vec<RuleClash>) -> Vec<RuleClash>
+    ensures { result.items ≡ clashes_but (is_excused_by excused.now) clashes.items }
+{
+    let mut left = clashes;
+    left.retain(|clash| !is_excused(excused, (clash.lesser, clash.greater)));
+    left
 }

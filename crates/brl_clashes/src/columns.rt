@@ -1,7 +1,7 @@
 //! A list of clashes as columns for programs.
 ghost use Rattle.std.specs.Prelude.{◌≡◌, ◌<◌, ◌++◌, IfSome, OnOk, codes, length, map, string_bytes};
 ghost use Rattle.std.specs.Option.{option_map_or};
-ghost use Rattle.brl_clashes.specs.Columns.{clash_columns, column_line, kind_columns, own_source as source_of_own, place_columns, rule_columns, source_of as source_of_rule, text_column};
+ghost use Rattle.brl_clashes.specs.Columns.{clash_columns, column_line, kind_columns, own_source as source_of_own, place_columns, rule_columns, rules_columns, source_of as source_of_rule, text_column};
 ghost use Rattle.brl_lines.specs.Views.{line_view};
 
 use crate::pair_tests::kind_of;
@@ -34,6 +34,13 @@ pub fn push_columns(
     let kind_of_pair = kind_of(listing.table, listing.firsts, listing.listed, clash);
     push_kinds(kind, kind_of_pair, text)?;
     push_clash(listing, clash, text)?;
+    push_rules(listing, clash, text)
+}
+
+/// Appends the columns of the two rules of a clash, and the end of the line.
+fn push_rules(listing: Listing<'_>, clash: &RuleClash, text: &mut String) -> Result<(), AllocError>
+    ensures { OnOk result (string_bytes text.new ≡ string_bytes text.old ++ rules_columns listing.entry.table.now (map line_view listing.entry.lines.now) clash.now) }
+{
     push_rule(listing, clash.lesser, text)?;
     push_rule(listing, clash.greater, text)?;
     text.push('\n')

@@ -116,20 +116,37 @@ impl<'a> Examples<'a> {
     /// its rules. Opcodes and characters of rules are left out where they don't fit, and then the
     /// two characters.
     fn line(self, clash: &RuleClash, indent: usize) -> Result<String, AllocError> {
-        let alloc = self.listing.alloc;
-        let texts = self.texts(clash)?;
+        let mut line = self.texts(clash)?;
         let differing = self.differing(clash)?;
         let columns = indent
-            .saturating_add(texts.width())
+            .saturating_add(line.width())
             .saturating_add(differing.width());
+        let rules = match self.rules_within(clash, differing.is_empty(), columns)? {
+            Some(rules) => {
+                line.push_str(differing.as_str())?;
+                rules
+            }
+            None => self.rules(clash, true, false)?,
+        };
+        line.push_str(rules.as_str())?;
+        Ok(line)
+    }
+
+    /// The rules of a clash after this many columns, with their opcodes and characters where these
+    /// fit, or without, if they fit so.
+    fn rules_within(
+        self,
+        clash: &RuleClash,
+        defines: bool,
+        columns: usize,
+    ) -> Result<Option<String>, AllocError> {
         for long in [true, false].iter() {
-            let rules = self.rules(clash, differing.is_empty(), *long)?;
+            let rules = self.rules(clash, defines, *long)?;
             if columns.saturating_add(rules.width()) <= MOST_COLUMNS {
-                return format!(in alloc; "{texts}{differing}{rules}");
+                return Ok(Some(rules));
             }
         }
-        let rules = self.rules(clash, true, false)?;
-        format!(in alloc; "{texts}{rules}")
+        Ok(None)
     }
 
     /// The texts of a clash.
@@ -145,19 +162,12 @@ impl<'a> Examples<'a> {
     fn differing(self, clash: &RuleClash) -> Result<String, AllocError> {
         let alloc = self.listing.alloc;
         let mut text = String::new(alloc);
-        let left = clash.clash.left();
-        let right = clash.clash.right();
-        let mut places = left.iter().zip(right).filter(|(c, d)| c != d);
-        let (Some((c, d)), None) = (places.next(), places.next()) else {
-            return Ok(text);
-        };
-        if left.len() != right.len() {
-            return Ok(text);
+        if let Some((c, d)) = only_difference(clash.clash.left(), clash.clash.right()) {
+            text.push_str("  ")?;
+            self.push_own(c, &mut text)?;
+            text.push_str(", ")?;
+            self.push_own(d, &mut text)?;
         }
-        text.push_str("  ")?;
-        self.push_own(*c, &mut text)?;
-        text.push_str(", ")?;
-        self.push_own(*d, &mut text)?;
         Ok(text)
     }
 
@@ -222,6 +232,19 @@ impl<'a> Examples<'a> {
             Some(info) => text.push_str(write_dots(alloc, info.cells.as_slice())?.as_str()),
             None => Ok(()),
         }
+    }
+}
+
+/// The two characters that alone differ in two texts of one length.
+fn only_difference(left: &[char], right: &[char]) -> Option<(char, char)> {
+    if left.len() != right.len() {
+        return None;
+    }
+    let mut places = left.iter().zip(right).filter(|(c, d)| c != d);
+    let (c, d) = places.next()?;
+    match places.next() {
+        Some(_) => None,
+        None => Some((*c, *d)),
     }
 }
 

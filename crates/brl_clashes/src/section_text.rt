@@ -25,6 +25,7 @@ ghost use Rattle.brl_lines.specs.Views.{line_view};
 ghost use Rattle.brl_search.specs.Clashes.{rules_of_clashes};
 
 use crate::columns::push_columns;
+use crate::list_request::ListRequest;
 use crate::listed_pairs::ListedPairs;
 use crate::order::compare_clashes;
 use crate::pair_tests::kind_of;
@@ -39,14 +40,6 @@ use brl_rules::Table;
 use brl_search::RuleClash;
 use std::alloc::{AllocError, Global};
 
-/// What is shown of each section.
-#[derive(Clone, Copy)]
-pub struct Shown<'a> {
-    pub form: ListForm<'a>,
-    /// Whether accepted pairs were left out of the sections.
-    pub taken: bool,
-}
-
 /// A table with its lines, the own definitions that represent others, and the pairs of rules that
 /// are listed.
 #[derive(Clone, Copy)]
@@ -58,19 +51,19 @@ pub struct Listing<'a> {
     pub listed: &'a ListedPairs,
 }
 
-/// The text of a section after sections that list these pairs of rules, to which its own are added:
-/// how many new ones it lists, and their lines: of pairs, or of kinds of pairs.
+/// The text of a section after sections that list these pairs of rules, to which its own are
+/// added: how many new ones it lists, and their lines: of pairs, or of kinds of pairs. `taken` says
+/// whether accepted pairs were left out of it.
 pub fn section_text(
     alloc: Global,
-    table: &Table,
-    lines: &[Line<'_>],
+    asked: ListRequest<'_>,
     firsts: &Firsts,
-    shown: Shown<'_>,
+    taken: bool,
     listed: &mut ListedPairs,
     section: Section,
 ) -> Result<String, AllocError>
-    requires { AreClashesOf table.now (clashes_of section.found) }
-    ensures text { IfOk result (λ text. IsSectionText table.now (map line_view lines.now) firsts.now shown.entry.form shown.entry.taken listed.old section (string_bytes text)) }
+    requires { AreClashesOf asked.table.now (clashes_of section.found) }
+    ensures text { IfOk result (λ text. IsSectionText asked.entry.table.now (map line_view asked.entry.lines.now) firsts.now asked.entry.form taken listed.old section (string_bytes text)) }
     ensures listed { OnOk result (listed.new ≡ listed_after listed.old section) }
 {
     let Section { kind, found } = section;
@@ -81,13 +74,13 @@ pub fn section_text(
     push_rules(listed, new.as_slice())?;
     let listing = Listing {
         alloc,
-        table,
-        lines,
+        table: asked.table,
+        lines: asked.lines,
         firsts,
         listed,
     };
-    let mut text = heading_in(alloc, shown, kind, count, more, whole)?;
-    let body = body(listing, shown.form, kind, new)?;
+    let mut text = heading_in(alloc, asked.form, taken, kind, count, more, whole)?;
+    let body = body(listing, asked.form, kind, new)?;
     text.push_str(body.as_str())?;
     Ok(text)
 }
@@ -247,17 +240,18 @@ pub(crate) fn in_order(clashes: Vec<RuleClash>) -> Vec<RuleClash>
 /// The first line of a section in a form; columns have none.
 fn heading_in(
     alloc: Global,
-    shown: Shown<'_>,
+    form: ListForm<'_>,
+    taken: bool,
     kind: Kind,
     count: usize,
     more: bool,
     whole: bool,
 ) -> Result<String, AllocError>
-    ensures { IfOk result (λ text. string_bytes text ≡ heading_of_form shown.entry.form shown.entry.taken kind count more whole) }
+    ensures { IfOk result (λ text. string_bytes text ≡ heading_of_form form.entry taken kind count more whole) }
 {
-    match shown.form {
+    match form {
         ListForm::Columns { .. } => Ok(String::new(alloc)),
-        _ => heading(alloc, shown.taken, kind, count, more, whole),
+        _ => heading(alloc, taken, kind, count, more, whole),
     }
 }
 

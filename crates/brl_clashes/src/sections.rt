@@ -1,56 +1,118 @@
-//! The sections of a table's list of clashes.
-ghost use Rattle.std.specs.Prelude.{◌≡◌, ◌<◌, ◌≤◌, ◌&&◌, [], IfOk, Some, length, slice_get, true};
-ghost use Rattle.brl_clashes.specs.Sections.{AreListed, AreSections, clashes_of as clashes_in, is_whole as has_all, lists_none as has_none};
+//! The sections of a table's list of clashes, and how each is found.
+ghost use Rattle.std.specs.Prelude.{◌≡◌, ◌<◌, ◌&&◌, [], IfOk, OnOk, Some, false, length, slice_get, true};
+ghost use Rattle.std.specs.Option.{option_map_or};
+ghost use Rattle.brl_clashes.specs.Finding.{IfKnown, IsOfAll, IsPlan};
+ghost use Rattle.brl_clashes.specs.Kinds.{left_out_in};
+ghost use Rattle.brl_clashes.specs.Sections.{AreListed, IsSection, clashes_of as clashes_in, is_whole as has_all, lists_none as has_none};
+ghost use Rattle.brl_clashes.specs.Showing.{asked_of};
+ghost use Rattle.brl_search.specs.Clashes.{AreClashes};
 ghost use Rattle.brl_without.specs.Tables.{IsUnambiguousWithout};
 
 use crate::Kind;
-use crate::kind::{kept_characters, left_out_and, section_kinds};
+use crate::kind::left_out_and;
+use crate::list_request::{ListRequest, Plan};
 use crate::section::{Section, is_whole, lists_none};
 use brl_pairs::{Body, Members, Seed};
 use brl_progress::Progress;
-use brl_rules::Table;
 use brl_search::{ClashList, clashes};
 use brl_without::LeftOut;
 use std::alloc::{AllocError, Global};
 
-/// Lists every pair of rules of a table at which clashing texts diverge that use none of some
-/// characters, in sections: for the texts of small letters and blanks, and then with digits, with
-/// capitals, with marks, and for all. There is a section for each kind that the table has a
-/// character of. Each is the whole list of its texts; a list that isn't whole, since more states,
-/// pairs or pairs of rules than `limit` were found, is the last one.
+/// Finds the section at a place: the pairs of rules at which clashing texts diverge, for the texts
+/// of small letters and blanks, and then with digits, with capitals, with marks, and for all. There
+/// is a section for each kind that the table has a character of.
 ///
-/// All texts come first: where no two of them clash, no others are searched.
-pub fn list_sections<P: Progress>(
+/// Where the sections before it list nothing, the list of all texts, the last section, is found
+/// first and kept: where that has nothing either, no others are searched.
+pub(crate) fn find_section<P: Progress>(
     alloc: Global,
-    table: &Table,
-    limit: u64,
-    left_out: &LeftOut,
+    plan: Plan<'_>,
+    place: usize,
+    none_before: bool,
+    all: &mut Option<ClashList>,
     progress: &mut P,
-) -> Result<Vec<Section>, AllocError>
-    requires { limit ≤ 4294967295 }
-    ensures { IfOk result (λ sections. AreSections table.now left_out.now limit sections.items) }
+) -> Result<Section, AllocError>
+    requires plan { IsPlan plan }
+    requires place { place < length plan.kinds.now }
+    requires all { IfKnown (asked_of plan.asked) all.old }
+    ensures section { IfOk result (IsSection plan.entry.asked.table.now plan.entry.asked.left_out.now plan.entry.asked.limit place) }
+    ensures all { OnOk result (IfKnown (asked_of plan.entry.asked) all.new) }
 {
-    let kept = kept_characters(alloc, table, left_out)?;
-    let kinds = section_kinds(alloc, table, kept.as_slice())?;
-    let kinds = kinds.as_slice();
-    let all = clashes(alloc, table, limit, left_out, progress)?;
-    let none = is_empty(&all);
-    let last = kinds.len() - 1;
-    let mut sections = Vec::new(alloc);
-    for place in 0..last {
-        let later = &kinds[place + 1..];
-        let without = left_out_and(alloc, table, left_out, later, kept.as_slice())?;
-        let found = found_for(alloc, table, limit, &without, none, progress)?;
-        let whole = is_whole(&found);
-        let kind = kind_at(kinds, place);
-        sections.push(Section { kind, found })?;
-        if !whole {
-            return Ok(sections);
-        }
+    let kind = kind_at(plan.kinds, place);
+    if place + 1 == plan.kinds.len() {
+        let found = find_all(alloc, plan, all.take(), progress)?;
+        return Ok(Section { kind, found });
     }
-    let kind = kind_at(kinds, last);
-    sections.push(Section { kind, found: all })?;
-    Ok(sections)
+    if none_before && place > 0 {
+        *all = Some(find_all(alloc, plan, all.take(), progress)?);
+    }
+    let none = is_none(all);
+    let found = found_at(alloc, plan, place, none, progress)?;
+    Ok(Section { kind, found })
+}
+
+/// The list of all texts, which may be known.
+fn find_all<P: Progress>(
+    alloc: Global,
+    plan: Plan<'_>,
+    known: Option<ClashList>,
+    progress: &mut P,
+) -> Result<ClashList, AllocError>
+    requires some { 0 < length plan.kinds.now }
+    requires known { IfKnown (asked_of plan.asked) known }
+    ensures { IfOk result (IsOfAll (asked_of plan.entry.asked)) }
+{
+    let kind = kind_at(plan.kinds, plan.kinds.len() - 1);
+    match known {
+        Some(all) => Ok(all),
+        None => search(alloc, plan.asked, kind, plan.asked.left_out, progress),
+    }
+}
+
+/// The clashes of the texts that use none of some characters. The observer hears of texts of this
+/// kind.
+fn search<P: Progress>(
+    alloc: Global,
+    asked: ListRequest<'_>,
+    kind: Kind,
+    without: &LeftOut,
+    progress: &mut P,
+) -> Result<ClashList, AllocError>
+    ensures { IfOk result (AreClashes without.now asked.entry.table.now asked.entry.limit) }
+{
+    progress.begin(kind.name());
+    let found = clashes(
+        alloc,
+        asked.table,
+        u64::from(asked.limit),
+        without,
+        progress,
+    );
+    progress.end();
+    found
+}
+
+/// What is found for the texts of the kinds up to that at a place, which isn't the last one.
+/// Nothing is searched where it is known that no two texts clash.
+fn found_at<P: Progress>(
+    alloc: Global,
+    plan: Plan<'_>,
+    place: usize,
+    none: bool,
+    progress: &mut P,
+) -> Result<ClashList, AllocError>
+    requires plan { IsPlan plan }
+    requires place { place < length plan.kinds.now }
+    requires none { none ≡ true → IsUnambiguousWithout plan.asked.left_out.now plan.asked.table.now }
+    ensures { IfOk result (AreListed (left_out_in plan.entry.asked.table.now plan.entry.asked.left_out.now place) plan.entry.asked.table.now plan.entry.asked.limit) }
+{
+    if none {
+        return Ok(no_clashes(alloc));
+    }
+    let asked = plan.asked;
+    let later = &plan.kinds[place + 1..];
+    let without = left_out_and(alloc, asked.table, asked.left_out, later, plan.kept)?;
+    search(alloc, asked, kind_at(plan.kinds, place), &without, progress)
 }
 
 /// The kind at a place.
@@ -61,31 +123,21 @@ fn kind_at(kinds: &[Kind], place: usize) -> Kind
     kinds[place]
 }
 
+/// Whether all texts are known to have no clash.
+fn is_none(all: &Option<ClashList>) -> bool
+    ensures { result ≡ option_map_or (λ found. has_all found && has_none found) all.now false }
+{
+    match all {
+        Some(found) => is_empty(found),
+        None => false,
+    }
+}
+
 /// Whether a list is whole and has no pair of rules.
 fn is_empty(found: &ClashList) -> bool
     ensures { result ≡ (has_all found.now && has_none found.now) }
 {
     is_whole(found) && lists_none(found)
-}
-
-/// What is found for the texts that use none of these characters: nothing is searched where it is
-/// known that no two of them clash.
-fn found_for<P: Progress>(
-    alloc: Global,
-    table: &Table,
-    limit: u64,
-    left_out: &LeftOut,
-    none: bool,
-    progress: &mut P,
-) -> Result<ClashList, AllocError>
-    requires few { limit ≤ 4294967295 }
-    requires none { none ≡ true → IsUnambiguousWithout left_out.now table.now }
-    ensures { IfOk result (AreListed left_out.now table.now limit) }
-{
-    if none {
-        return Ok(no_clashes(alloc));
-    }
-    clashes(alloc, table, limit, left_out, progress)
 }
 
 /// A whole list of nothing.

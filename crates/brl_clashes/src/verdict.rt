@@ -1,19 +1,24 @@
 //! The outcome of the sections of a list.
-ghost use Rattle.std.specs.Prelude.{◌≡◌, ◌==◌, if◌then◌else◌, IfOk, string_bytes};
-ghost use Rattle.brl_clashes.specs.Accepted.{accepted_lines as lines_of_accepted, outcome_beside as said_outcome, stale_line as line_of_stale};
+ghost use Rattle.std.specs.Prelude.{◌≡◌, ◌==◌, if◌then◌else◌, IfOk, length, string_bytes};
+ghost use Rattle.brl_clashes.specs.Accepted.{
+  accepted_count as count_of_accepted,
+  accepted_lines as lines_of_accepted,
+  outcome_beside as said_outcome,
+  stale_line as line_of_stale,
+};
 ghost use Rattle.brl_clashes.specs.ClashesText.{
-  counts_of as counts_after,
-  last_counts as last_counts_of,
+  counts_after as line_after,
+  counts_of as counts_in,
   pairs_line as line_of_pairs,
+  verdict_by,
   verdict_counts as counts_of_verdict,
   verdict_pairs as pairs_of_verdict,
 };
 ghost use Rattle.brl_clashes.specs.SectionText.{others_note as note_of_others, pairs_words as words_of_pairs};
-ghost use Rattle.brl_clashes.specs.Sections.{are_whole as all_whole, list_none as none_listed, outcome_of as outcome_of_sections};
+ghost use Rattle.brl_clashes.specs.Sections.{outcome_by};
 
-use crate::Section;
 use crate::accepted::Taken;
-use crate::section::{is_whole, lists_none};
+use crate::tally::Tally;
 use brl_accepted::but_for_line;
 use brl_answers::counts_text;
 use brl_search::ClashList;
@@ -30,22 +35,9 @@ pub enum ListOutcome {
     Unfinished,
 }
 
-/// The outcome of these sections.
-pub fn outcome_of(sections: &[Section]) -> ListOutcome
-    ensures { result ≡ outcome_of_sections sections.now }
-{
-    if !are_whole(sections) {
-        return ListOutcome::Unfinished;
-    }
-    if !list_none(sections) {
-        return ListOutcome::Clashing;
-    }
-    ListOutcome::Unambiguous
-}
-
 /// The outcome for a table whose sections have this one after this many accepted pairs of rules
 /// were left out. Where some were, the table isn't unambiguous, also where no pair is left.
-pub fn outcome_beside(accepted: usize, outcome: ListOutcome) -> ListOutcome
+fn outcome_beside(accepted: usize, outcome: ListOutcome) -> ListOutcome
     ensures { result ≡ said_outcome accepted outcome }
 {
     match outcome {
@@ -54,9 +46,36 @@ pub fn outcome_beside(accepted: usize, outcome: ListOutcome) -> ListOutcome
     }
 }
 
+/// The verdict lines of a list. Where a file was read, they say how many pairs it accepts.
+pub fn verdict_text(
+    alloc: Global,
+    tally: &Tally,
+    accepted: Option<Taken>,
+) -> Result<String, AllocError>
+    ensures { IfOk result (λ text. string_bytes text ≡ verdict_by accepted (outcome_by tally.now.whole tally.now.none) tally.now.counts (length tally.now.left)) }
+{
+    let listed = accepted_count(accepted);
+    let outcome = outcome_beside(listed, tally.outcome());
+    let mut text = verdict_counts(alloc, outcome, tally.counts)?;
+    let number = tally.left.len();
+    text.push_str(verdict_pairs(alloc, listed > 0, outcome, number)?.as_str())?;
+    text.push_str(accepted_lines(alloc, accepted)?.as_str())?;
+    Ok(text)
+}
+
+/// How many listed pairs are accepted, where a file was read.
+fn accepted_count(accepted: Option<Taken>) -> usize
+    ensures { result ≡ count_of_accepted accepted }
+{
+    match accepted {
+        None => 0,
+        Some(taken) => taken.listed,
+    }
+}
+
 /// The lines on a file of accepted pairs: how many of its lines are stale, and how much it excuses.
 /// Empty where no file is read.
-pub fn accepted_lines(alloc: Global, accepted: Option<Taken>) -> Result<String, AllocError>
+fn accepted_lines(alloc: Global, accepted: Option<Taken>) -> Result<String, AllocError>
     ensures { IfOk result (λ text. string_bytes text ≡ lines_of_accepted accepted) }
 {
     let Some(taken) = accepted else {
@@ -89,61 +108,47 @@ fn words_for(count: usize, one: &'static str, other: &'static str) -> &'static s
     if count == 1 { one } else { other }
 }
 
-/// Whether all of these sections are whole.
-pub fn are_whole(sections: &[Section]) -> bool
-    ensures { result ≡ all_whole sections.now }
-{
-    sections.iter().all(|s| is_whole(&s.found))
-}
-
-/// Whether none of these sections lists a pair of rules.
-fn list_none(sections: &[Section]) -> bool
-    ensures { result ≡ none_listed sections.now }
-{
-    sections.iter().all(|s| lists_none(&s.found))
-}
-
-/// The counts that are reported of an outcome of sections, and empty where none are.
-pub fn verdict_counts(
-    alloc: Global,
-    outcome: ListOutcome,
-    sections: &[Section],
-) -> Result<String, AllocError>
-    ensures { IfOk result (λ text. string_bytes text ≡ counts_of_verdict outcome sections.now) }
-{
-    match outcome {
-        ListOutcome::Unambiguous => last_counts(alloc, "unambiguous", sections),
-        ListOutcome::Clashing => Ok(String::new(alloc)),
-        ListOutcome::Unfinished => last_counts(alloc, "limit", sections),
-    }
-}
-
-/// The counts of the last of these sections after a word.
-fn last_counts(alloc: Global, word: &str, sections: &[Section]) -> Result<String, AllocError>
-    ensures { IfOk result (λ text. string_bytes text ≡ last_counts_of word.now sections.now) }
-{
-    match sections.last() {
-        Some(section) => counts_of(alloc, word, &section.found),
-        None => Ok(String::new(alloc)),
-    }
-}
-
-/// How many states and pairs a list rests on, after a word.
-fn counts_of(alloc: Global, word: &str, found: &ClashList) -> Result<String, AllocError>
-    ensures { IfOk result (λ text. string_bytes text ≡ counts_after word.now found.now) }
+/// On how many states and pairs a list rests.
+pub fn counts_of(found: &ClashList) -> (u64, u64)
+    ensures { result ≡ counts_in found.now }
 {
     match found {
         ClashList::Complete { body, .. } => {
             let states = u64::from(body.state_count());
             let pairs = u64::from(body.pair_count());
-            counts_text(alloc, word, states, pairs)
+            (states, pairs)
         }
-        ClashList::Partial { states, pairs, .. } => counts_text(alloc, word, *states, *pairs),
+        ClashList::Partial { states, pairs, .. } => (*states, *pairs),
+    }
+}
+
+/// The counts that are reported of an outcome, and empty where none are.
+fn verdict_counts(
+    alloc: Global,
+    outcome: ListOutcome,
+    counts: Option<(u64, u64)>,
+) -> Result<String, AllocError>
+    ensures { IfOk result (λ text. string_bytes text ≡ counts_of_verdict outcome counts) }
+{
+    match outcome {
+        ListOutcome::Unambiguous => counts_after(alloc, "unambiguous", counts),
+        ListOutcome::Clashing => Ok(String::new(alloc)),
+        ListOutcome::Unfinished => counts_after(alloc, "limit", counts),
+    }
+}
+
+/// These counts after a word, where there are some.
+fn counts_after(alloc: Global, word: &str, counts: Option<(u64, u64)>) -> Result<String, AllocError>
+    ensures { IfOk result (λ text. string_bytes text ≡ line_after word.now counts) }
+{
+    match counts {
+        Some((states, pairs)) => counts_text(alloc, word, states, pairs),
+        None => Ok(String::new(alloc)),
     }
 }
 
 /// How many pairs of rules diverge, and whether others may; empty where none are listed.
-pub fn verdict_pairs(
+fn verdict_pairs(
     alloc: Global,
     taken: bool,
     outcome: ListOutcome,

@@ -306,10 +306,11 @@ place, and there use two different rules, or one that takes other characters or
 begins a run of capitals in one of them alone. Standard output gets every pair
 of rules at which such texts diverge, however long they are, and no others:
 first for texts of small letters and blanks, then with digits, with capitals,
-with marks, and for all characters. A pair is listed once, in the first section
-that it diverges in. Its line has two texts, their cells, and of each rule the file
-and line, the opcode and the characters. The most suspicious come first: texts of
-the same length by how few characters differ, then short texts.
+with marks, and for all characters. Each section is printed when it is found. A
+pair is listed once, in the first section that it diverges in. Its line has two
+texts, their cells, and of each rule the file and line, the opcode and the
+characters. The most suspicious come first: texts of the same length by how few
+characters differ, then short texts.
 
 A section of more than 12 pairs has a line for each kind of them: how many there
 are, and examples. Kinds without examples are in its last lines, by the key that

@@ -1,5 +1,5 @@
 //! Standard error, which shows how far long work is where it is a terminal.
-ghost use Rattle.std.specs.Prelude.{◌≡◌, Bool};
+ghost use Rattle.std.specs.Prelude.{◌≡◌, Bool, IsTrue};
 ghost use Rattle.brl_progress.specs.Console.{IsSilent};
 
 use crate::{Progress, Work};
@@ -22,6 +22,8 @@ pub struct Console<'c, C, E> {
     clock: &'c C,
     stream: E,
     is_terminal: bool,
+    /// The name of the part of the work that is done; empty where it has none.
+    part: &'static str,
     /// When progress was first reported, if ever.
     begun: Option<Instant>,
     /// How long after `begun` the work is shown next.
@@ -51,6 +53,7 @@ impl<'c, C: Clock, E: Write> Console<'c, C, E> {
             clock,
             stream,
             is_terminal,
+            part: "",
             begun: None,
             due: Duration::from_millis(QUIET),
             is_shown: false,
@@ -74,6 +77,17 @@ impl<'c, C: Clock, E: Write> Console<'c, C, E> {
         }
     }
 
+    /// Shows how far the work is after this number of seconds, on a terminal.
+    fn show(&mut self, work: Work, seconds: u64)
+        requires { IsTrue self.old.is_terminal }
+        ensures { IsSilent self.old self.new }
+    {
+        let part = self.part;
+        let colon = if part.is_empty() { "" } else { ": " };
+        let _ = write!(self.stream, "{CLEAR}{part}{colon}{work}, {seconds} s");
+        self.is_shown = true;
+    }
+
     /// The time since progress was first reported.
     fn elapsed(&mut self) -> IoResult<Duration>
         ensures { self.new ≡ self.old }
@@ -85,6 +99,12 @@ impl<'c, C: Clock, E: Write> Console<'c, C, E> {
 }
 
 impl<'c, C: Clock, E: Write> Progress for Console<'c, C, E> {
+    fn begin(&mut self, part: &'static str)
+        ensures { IsSilent self.old self.new }
+    {
+        self.part = part;
+    }
+
     fn report(&mut self, work: Work)
         ensures { IsSilent self.old self.new }
     {
@@ -97,9 +117,7 @@ impl<'c, C: Clock, E: Write> Progress for Console<'c, C, E> {
         if elapsed < self.due {
             return;
         }
-        let seconds = elapsed.as_secs();
-        let _ = write!(self.stream, "{CLEAR}{work}, {seconds} s");
-        self.is_shown = true;
+        self.show(work, elapsed.as_secs());
         self.due = elapsed.saturating_add(Duration::from_millis(PAUSE));
     }
 
@@ -107,6 +125,7 @@ impl<'c, C: Clock, E: Write> Progress for Console<'c, C, E> {
         ensures { IsSilent self.old self.new }
     {
         self.clear();
+        self.part = "";
         self.begun = None;
         self.due = Duration::from_millis(QUIET);
     }

@@ -45,10 +45,13 @@ impl fmt::Display for Work {
 
 /// An observer of progress.
 pub trait Progress {
+    /// Called where a part of the work begins, with its name.
+    fn begin(&mut self, part: &'static str);
+
     /// Called again and again with how far the work is.
     fn report(&mut self, work: Work);
 
-    /// Called when the work has ended, before its answer is delivered.
+    /// Called when the work or a part of it has ended, before what it gives is delivered.
     fn end(&mut self);
 }
 
@@ -57,6 +60,8 @@ pub trait Progress {
 pub struct NoProgress;
 
 impl Progress for NoProgress {
+    fn begin(&mut self, _part: &'static str) {}
+
     fn report(&mut self, _work: Work) {}
 
     fn end(&mut self) {}

@@ -6,6 +6,8 @@ use std::io::{Result as IoResult, Write};
 #[derive(Drop)]
 pub struct Listener {
     pub written: Vec<u8>,
+    /// The part of the work that it heard of last; empty where there was none.
+    pub part: &'static str,
     /// The last that it heard.
     pub last: Option<Work>,
     /// How often progress was reported.
@@ -19,6 +21,7 @@ impl Listener {
     pub fn new(written: Vec<u8>) -> Listener {
         Listener {
             written,
+            part: "",
             last: None,
             times: 0,
             ends: 0,
@@ -37,6 +40,10 @@ impl Write for Listener {
 }
 
 impl Progress for Listener {
+    fn begin(&mut self, part: &'static str) {
+        self.part = part;
+    }
+
     fn report(&mut self, work: Work) {
         self.last = Some(work);
         self.times = self.times.saturating_add(1);

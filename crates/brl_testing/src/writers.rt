@@ -39,6 +39,8 @@ impl Write for Closed {
 }
 
 impl Progress for Closed {
+    fn begin(&mut self, _part: &'static str) {}
+
     fn report(&mut self, _work: Work) {}
 
     fn end(&mut self) {}

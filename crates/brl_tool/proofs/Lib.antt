@@ -1,4 +1,8 @@
 pub mod GoodRows
+mod WrittenLemmas
+mod ListLemmas
+mod DiagnosisLemmas
+mod InputLemmas
 pub mod StatusLemmas
 pub mod StreamLemmas
 pub mod SurveyLemmas

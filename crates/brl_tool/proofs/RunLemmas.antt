@@ -14,7 +14,8 @@ use Rattle.brl_cli.specs.declared.command.Question.{Question}
 use Rattle.brl_cli.specs.declared.command.Question.TheVariants as question
 use Rattle.brl_cli.specs.declared.command.Task.{Task}
 use Rattle.brl_cli.specs.declared.command.Task.TheVariants as task
-use Rattle.brl_tool.proofs.StatusLemmas.{never_refuted, unrefuted}
+use Rattle.brl_tool.proofs.StatusLemmas.{unrefuted}
+use Rattle.brl_tool.proofs.WrittenLemmas.{never_refuted}
 use Rattle.brl_clashes.specs.declared.section.Section.{Section}
 use Rattle.brl_cli.specs.declared.command.PairFiles.{PairFiles}
 use Rattle.brl_lines.specs.Answer.{FileAnswers, Holds, MayAnswer}

@@ -26,71 +26,49 @@ use Rattle.brl_search.specs.declared.table_search.Found.TheVariants.{Certified, 
 use Rattle.brl_states.specs.declared.cert.Cert.TheVariants.{Dues, Window, Word}
 use Rattle.brl_lines.specs.Tokens.{LineView}
 use Rattle.brl_lines.specs.Lines.{lines_of as lines_of_answers}
+use Rattle.brl_tool.proofs.ListLemmas.{list_asks}
 use Rattle.brl_tool.proofs.OfFiles.{lines_of, of_files}
+use Rattle.brl_tool.proofs.WrittenLemmas.{file_written, never_done, never_refuted, whole}
 use Rattle.brl_tool.specs.ByLines.{shown_lines}
 use Rattle.brl_search.specs.Used.{AreUnused, AreUnusedRules, IsRule, IsUsed}
 use Rattle.brl_search.specs.declared.unused.UnusedRules.{UnusedRules}
 use Rattle.brl_search.specs.declared.unused.UnusedRules.TheVariants as unused
 use Rattle.brl_report.specs.Unused.{unused_text}
 use Rattle.brl_rules.specs.TableView.{TableView}
-use Rattle.brl_answers.proofs.DeliveryLemmas.{none_changes, one_changes}
+use Rattle.brl_answers.proofs.DeliveryLemmas.{none_changes}
 use Rattle.brl_answers.proofs.StepLemmas.{then_ok}
-use Rattle.brl_clashes.proofs.Verdicts.{none_clash, only_accepted, other_clash}
-use Rattle.brl_clashes.specs.Sections.{are_whole, lists_none, outcome_of}
-use Rattle.brl_clashes.specs.declared.accepted.Taken.{Taken}
-use Rattle.brl_clashes.specs.declared.list_form.ListForm.{ListForm}
-use Rattle.brl_clashes.specs.declared.section.Section.{Section}
-use Rattle.brl_clashes.specs.declared.verdict.ListOutcome.{ListOutcome}
-use Rattle.brl_clashes.specs.declared.verdict.ListOutcome.TheVariants.{Unambiguous, Clashing, Unfinished}
+use Rattle.brl_clashes.specs.declared.verdict.ListOutcome.TheVariants.{Clashing}
 use Rattle.brl_table.specs.Reading.{PassesAll, table_of}
-use Rattle.brl_tool.specs.Baselines.{AreExcused, AreFilesWith, IsBaseline, is_written, leaves_stale, read_paths, written_path, written_text}
-use Rattle.brl_traces.specs.Traces.{ClashesDivergeAtWithout}
-use Rattle.brl_tool.specs.Diagnosing.{IsDiagnosis, form_by, status_of_sections}
+use Rattle.brl_tool.specs.Baselines.{read_paths}
 use Rattle.brl_cut.specs.Cuts.{IsRead, written_root}
 use Rattle.brl_cut.specs.Edits.{Texts}
 use Rattle.brl_tool.specs.Comparing.{IsComparison}
 use Rattle.brl_tool.specs.Unused.{status_of_list, status_of_unused, text_of_unused}
 use Rattle.brl_tool.specs.Excusing.{Excuses}
-use Rattle.brl_tool.specs.FileBytes.{IsFileWith}
 use Rattle.brl_tool.specs.Verdicts.{IsJudgement, SaysFound}
 use Rattle.brl_answers.specs.Answers.{with_alphabet_line}
 use Rattle.brl_cli.specs.declared.command.AlphabetOption.{AlphabetOption}
 use Rattle.brl_cli.specs.declared.command.AlphabetOption.TheVariants as alphabets
 use Rattle.brl_tool.specs.Alphabets.{spelled_by}
 use Rattle.brl_without.specs.Alphabet.{AlphabetView, left_out_by}
-use Rattle.brl_answers.specs.Delivery.{Delivers, World, KeepsFiles, Prints, Writes}
-use Rattle.brl_answers.specs.Files.{GivesAlso, MayBeSame, OthersStay}
+use Rattle.brl_answers.specs.Delivery.{Delivers, IsDelivered, World, KeepsFiles, Prints, world}
+use Rattle.brl_answers.specs.Files.{MayBeSame, OthersStay}
 use Rattle.brl_answers.specs.Making.{FilesAfter}
-use Rattle.brl_tool.specs.Running.{Answers, Asks, ClashAtAccepted, KeepsFilesBut, KeepsFilesRefuted, KeepsFilesUnlessWritten, IsShownBut, MeansDone, MeansRefuted, NoneActs, ReportsCertificate, ReportsClash, SurveysSuspect, WritesFile, WritesList, WritesTable}
+use Rattle.brl_tool.specs.Running.{Answers, AnswersAtOnce, Asks, KeepsOutput, KeepsFilesRefuted, KeepsFilesUnlessWritten, IsShownBut, MeansDone, MeansRefuted, NoneActs, ReportsCertificate, ReportsClash, SurveysSuspect, WritesTable}
 use Rattle.brl_slips.specs.declared.findings.Findings.{Findings}
 use Rattle.brl_tool.specs.Slipping.{shows_none, status_of_slips}
 use Rattle.brl_tool.specs.Surveying.{IsPart, IsReportIfAny, IsSuspectAt, Part, status_by, text_of_part}
 use Rattle.brl_tool.specs.Suspects.{has_unknown_opcode}
 use Rattle.brl_table.specs.Survey.{faulty_line_view}
-use Rattle.brl_answers.specs.Status.{status_of}
 use Rattle.brl_answers.specs.declared.answer.Answer.{Answer}
 use Rattle.brl_answers.specs.declared.new_files.NewFile.{NewFile}
 use Rattle.brl_answers.specs.declared.new_files.NewFiles.{NewFiles}
-use Rattle.brl_answers.specs.declared.new_files.NewFiles.TheVariants.{Nothing, InPlace, AllNew}
+use Rattle.brl_answers.specs.declared.new_files.NewFiles.TheVariants.{Nothing, AllNew}
 use Rattle.brl_answers.specs.declared.run_fault.RunFault.{RunFault}
-use Rattle.brl_answers.specs.declared.run_fault.RunFault.TheVariants.{Wide, Memory}
 use Rattle.brl_answers.specs.declared.status.Status.{Status}
 use Rattle.brl_answers.specs.declared.status.Status.TheVariants.{Done, Faulty, Refuted, Undecided}
-use Rattle.brl_cli.specs.declared.command.PairFiles.{PairFiles}
 use Rattle.brl_cli.specs.declared.command.Question.{Question}
 use Rattle.brl_cli.specs.declared.command.Question.TheVariants as question
-
--- ---- No fault has the status of work that was done
-
-never_done : (fault : RunFault) → status_of fault ≡ Done → ⊥
-never_done Memory e = cc
-never_done (Wide fault) e = cc
-never_done fault e = cc
-
-pub never_refuted : (fault : RunFault) → status_of fault ≡ Refuted → ⊥
-never_refuted Memory e = cc
-never_refuted (Wide fault) e = cc
-never_refuted fault e = cc
 
 pub unrefuted : (loaded : Bool) → cond loaded Done Faulty ≡ Refuted → ⊥
 unrefuted true e = cc
@@ -193,26 +171,6 @@ done_status false suspect e = absurd cc
 all_units : (paths : List (List ℕ)) (gives : FileAnswers) → All (λ path. NoneActs None gives path [] true) paths
 all_units paths gives = λ k d within. tt
 
--- a list of clashes has the status of its outcome, beside what a file takes out
-done_none : (stale : Bool) → (if stale then Faulty else Done) ≡ Refuted → ⊥
-done_none true e = cc
-done_none false e = cc
-
-no_pair : (taken : Option Taken) (o : ListOutcome) → status_of_sections taken o ≡ Done → o ≡ Unambiguous
-no_pair taken Unambiguous e = refl
-no_pair taken Clashing e = absurd cc
-no_pair taken Unfinished e = absurd cc
-
-some_pair : (taken : Option Taken) (o : ListOutcome) → status_of_sections taken o ≡ Refuted → o ≡ Clashing
-some_pair taken Unambiguous e = absurd (done_none (leaves_stale taken) e)
-some_pair taken Clashing e = refl
-some_pair taken Unfinished e = absurd cc
-
--- what has a verdict is whole
-is_decided : (is_whole none : Bool) → ((if is_whole then (if none then Unambiguous else Clashing) else Unfinished) ≡ Unfinished → ⊥) → is_whole ≡ true
-is_decided true none decided = refl
-is_decided false none decided = absurd (decided refl)
-
 -- a list of unused rules says by its status whether it has one
 some_listed : (none : Bool) → (none ≡ true → ⊥) → cond none Done Refuted ≡ Done → ⊥
 some_listed true some e = some refl
@@ -238,35 +196,6 @@ some_unused alphabet left_out t lines limit (unused.Unused numbers) rules refute
 some_unused alphabet left_out t lines limit (unused.Limit states) rules refuted = absurd cc
 
 module _ (before after : World) (same_file : MayBeSame) where
-  -- an answer with a status that no fault has was written whole
-  whole : (s : Status) → ((fault : RunFault) → status_of fault ≡ s → ⊥) → (outcome : Result Answer RunFault) (status : Status) → Delivers outcome before after status → status ≡ s
-      → (answer : Answer) × (outcome ≡ Ok answer) × (answer.status ≡ s) × FilesAfter before.gives after.gives answer.files × Prints before after (string_bytes answer.text)
-  whole s never (Ok answer) status (Ok written, (files, prints, is), e) same = (answer, refl, sym is ∙ (sym e ∙ same), files, prints)
-  whole s never (Ok answer) status (Err fault, writes, e) same = absurd (never fault (sym e ∙ same))
-  whole s never (Err fault) status (stay, still, e) same = absurd (never fault (sym e ∙ same))
-
-  -- ---- A file that is written
-
-  file_written : (content out : List ℕ) (files : NewFiles) → IsFileWith out content files → FilesAfter before.gives after.gives files → GivesAlso after.gives out content × OthersStay before.gives after.gives out
-  file_written content out Nothing is written = absurd is
-  file_written content out (AllNew files) is written = absurd is
-  file_written content out (InPlace file) (path, bytes) (gives, others) =
-      (subst (λ (p : List ℕ). GivesAlso after.gives p content) path (subst (GivesAlso after.gives (string_bytes file.path)) bytes gives), subst (OthersStay before.gives after.gives) path others)
-
-  -- a file is written, where a path for it is asked for and it is to be
-  list_file : (out : Option (List ℕ)) (is : Bool) (content : List ℕ) (files : NewFiles) → AreFilesWith out is content files → FilesAfter before.gives after.gives files → WritesFile before after out is content
-  list_file None is content files are written = subst (FilesAfter before.gives after.gives) are written
-  list_file (Some path) false content files are written = subst (FilesAfter before.gives after.gives) are written
-  list_file (Some path) true content files are written = file_written content path files are written
-
-  stays_but : (path : List ℕ) → KeepsFiles before after → OthersStay before.gives after.gives path
-  stays_but path stay = (ap (λ (gives : FileAnswers). gives.folders) stay, λ p a other. ap (λ (gives : FileAnswers). gives.may p a) stay)
-
-  keeps_others : (out : Option (List ℕ)) (is : Bool) (content : List ℕ) → WritesFile before after out is content → KeepsFilesBut out before after
-  keeps_others None is content written = written
-  keeps_others (Some path) false content written = stays_but path written
-  keeps_others (Some path) true content written = written.1
-
   -- answers for other files are given after a file is written
   answers_stay : (out : List ℕ) → OthersStay before.gives after.gives out → (answers : Given) → All (λ one. one ≢ out) (map (λ entry. entry.0) answers) → AreGiven before.gives answers → AreGiven after.gives answers
   answers_stay out others [] apart given = tt
@@ -304,7 +233,7 @@ module _ (before after : World) (same_file : MayBeSame) where
 
     found_means : (found : Searched) → IsSearched (left_out_by (table_of lines) alphabet) excusal.excused (table_of lines) limit found → SaysFound alphabet accept excusal (table_of lines) out found answer → IsMeant
     found_means (Found (Certified (Word body))) is (shown, accepted, (status, text, file, read)) = (
-      (λ done. let (gives, others) = file_written (spelling (certificate_of body)) out answer.files file files in
+      (λ done. let (gives, others) = file_written before after (spelling (certificate_of body)) out answer.files file files in
           let stays = table_stays path out paths (table_of lines) (lines, are, passes, refl) (front_apart out paths accept apart) others in (
             alphabet,
             spelled,
@@ -337,41 +266,7 @@ module _ (before after : World) (same_file : MayBeSame) where
       → (answer.status ≡ Done → MeansDone asked before after) × (answer.status ≡ Refuted → MeansRefuted asked before after × KeepsFilesRefuted asked before after)
 
   abbrev IsAnswerTo : Question → Answer → Type 0
-  IsAnswerTo asked answer = Answers asked before.gives same_file (Ok answer)
-
-  -- ---- A list of clashes beside accepted pairs
-
-  -- where no file is read, none are accepted
-  none_accepted : (baseline : Option (List ℕ)) (prune : Bool) (t : TableView) (lines : List LineView) (found : List Section) (accepted : List (ℕ × ℕ)) (taken : Option Taken) → IsBaseline before.gives None baseline
-      → AreExcused baseline prune t lines found accepted taken → accepted ≡ []
-  none_accepted baseline prune t lines found accepted taken none accepts = (subst (λ (b : Option (List ℕ)). AreExcused b prune t lines found accepted taken) none accepts).0
-
-  -- where no other clash is left, no texts clash but at accepted pairs
-  at_accepted : (accept baseline : Option (List ℕ)) (prune : Bool) (left_out : List ℕ) (lines : List LineView) (found : List Section) (accepted : List (ℕ × ℕ)) (taken : Option Taken) → IsBaseline before.gives accept baseline
-      → AreExcused baseline prune (table_of lines) lines found accepted taken → ClashesDivergeAtWithout left_out accepted (table_of lines) → ClashAtAccepted accept left_out accepted (table_of lines)
-  at_accepted None baseline prune left_out lines found accepted taken none accepts only =
-      none_clash (table_of lines) left_out
-      (subst (λ (pairs : List (ℕ × ℕ)). ClashesDivergeAtWithout left_out pairs (table_of lines)) (none_accepted baseline prune (table_of lines) lines found accepted taken none accepts) only)
-  at_accepted (Some path) baseline prune left_out lines found accepted taken read accepts only = only
-
-  -- a list that is whole was written, and its file
-  list_written : (path : List ℕ) (alphabet : AlphabetView) (pairs : PairFiles) (baseline : Option (List ℕ)) (paths : List (List ℕ)) (lines : List LineView) (limit : ℕ) (form : ListForm) (answer : Answer) → AreLinesOfFiles before.gives path paths lines
-      → PassesAll lines → IsBaseline before.gives (option_copied pairs.accept) baseline → (d : IsDiagnosis alphabet (table_of lines) lines limit form baseline pairs answer) → (outcome_of d.left ≡ Unfinished → ⊥)
-      → FilesAfter before.gives after.gives answer.files → Prints before after (string_bytes answer.text) → WritesList before after path alphabet pairs lines d.accepted
-  list_written path alphabet pairs baseline paths lines limit form answer are passes read d decided files prints = record {
-    lines_are = lines_of before.gives path paths lines are;
-    passes = passes;
-    limit = limit;
-    form = form;
-    baseline = baseline;
-    read = read;
-    answer = answer;
-    is = d;
-    accepted_are = refl;
-    whole = is_decided (are_whole d.left) (list_all (λ s. lists_none s.found) d.left) decided;
-    prints = prints;
-    written = list_file (written_path pairs) (is_written pairs.prune d.taken d.left) (written_text pairs.prune baseline (table_of lines) lines d.found d.left) answer.files d.files files;
-  }
+  IsAnswerTo asked answer = AnswersAtOnce asked before.gives same_file (Ok answer)
 
   -- the files of a cut were written, and define a table
   table_written : (path dir : List ℕ) (made : Vec NewFile) (texts : Texts) (files : NewFiles) → files ≡ AllNew made → map new_file_view made.items ≡ texts
@@ -381,7 +276,6 @@ module _ (before after : World) (same_file : MayBeSame) where
       (made.items, new, after_files, subst (λ (fs : Texts). IsRead fs (written_root dir path)) (sym same) read)
 
   means : (asked : Question) (answer : Answer) → IsAnswerTo asked answer → Means asked answer
-  unfolding list_written
   means (question.Clash path left right options) answer compares files prints =
       let (l, left_read, after_left) = then_ok compares in
       let (r, right_read, after_right) = then_ok after_left in
@@ -503,29 +397,7 @@ module _ (before after : World) (same_file : MayBeSame) where
       let (defined, excuses) = then_ok defines in
       let (excusal, excused, (found, searched, says)) = then_ok excuses in
       found_means path.now out.now (option_copied accept) option limit alphabet spelled read.paths read.lines are passes apart excusal excused answer files prints found searched says
-  means (question.Clashes path limit first key columns option pairs) answer is files prints =
-      let accept = option_copied pairs.accept in
-      let (alphabet, spelled, loads) = then_ok is in
-      let (loaded, are, stays) = then_ok loads in
-      let (apart, checks) = then_ok stays in
-      let (passes, defines) = then_ok checks in
-      let (defined, reads) = then_ok defines in
-      let (baseline, read, d) = then_ok reads in
-      let lines = loaded.lines in
-      let t = table_of lines in
-      let left_out = left_out_by t alphabet in
-      let list = list_written path.now alphabet pairs baseline loaded.paths lines limit (form_by columns first key) answer are passes read d in (
-        (λ done.
-            let none = no_pair d.taken (outcome_of d.left) (sym d.status ∙ done) in
-            let written = list (λ e. let u = sym none ∙ e in cc) files prints in
-            (alphabet, spelled, (lines, d.accepted, written, at_accepted accept baseline pairs.prune left_out lines d.found d.accepted d.taken read d.accepts (only_accepted t left_out limit d.accepted d.found d.left d.are d.beside none)))),
-        (λ refuted.
-            let some = some_pair d.taken (outcome_of d.left) (sym d.status ∙ refuted) in
-            let written = list (λ e. let u = sym some ∙ e in cc) files prints in (
-              (alphabet, spelled, (lines, d.accepted, written, other_clash t left_out limit d.accepted d.found d.left d.are d.beside some)),
-              keeps_others (written_path pairs) (is_written pairs.prune d.taken d.left) (written_text pairs.prune baseline t lines d.found d.left) written.written,
-            )),
-      )
+  means (question.Clashes path limit first key columns option pairs) answer is files prints = absurd is
 
   -- ---- Only a search, a cut and a list of clashes have files to write
 
@@ -541,24 +413,7 @@ module _ (before after : World) (same_file : MayBeSame) where
     | inr (fault, of, refused, (rest, says)) ↦ says.2
   ]
 
-  keeps_all_but : (write : Option (List ℕ)) → KeepsFiles before after → KeepsFilesBut write before after
-  keeps_all_but None stay = stay
-  keeps_all_but (Some path) stay = stays_but path stay
-
-  -- a file with pairs alone changes
-  one_alone : (answer : Answer) (path content : List ℕ) (files : NewFiles) → answer.files ≡ files → IsFileWith path content files → (written : Result Status RunFault) → Writes answer before after written
-      → OthersStay before.gives after.gives path
-  one_alone answer path content Nothing same is written writes = absurd is
-  one_alone answer path content (AllNew files) same is written writes = absurd is
-  one_alone answer path content (InPlace file) same is written writes = subst (OthersStay before.gives after.gives) is.0 (one_changes before after answer file written same writes)
-
-  pairs_alone : (answer : Answer) (write : Option (List ℕ)) (is_whole : Bool) (content : List ℕ) → AreFilesWith write is_whole content answer.files → (written : Result Status RunFault)
-      → Writes answer before after written → KeepsFilesBut write before after
-  pairs_alone answer None is_whole content are written writes = none_changes before after answer written are writes
-  pairs_alone answer (Some path) false content are written writes = keeps_all_but (Some path) (none_changes before after answer written are writes)
-  pairs_alone answer (Some path) true content are written writes = one_alone answer path content answer.files refl are written writes
-
-  keeps : (asked : Question) (outcome : Result Answer RunFault) (status : Status) → Answers asked before.gives same_file outcome → Delivers outcome before after status → KeepsFilesUnlessWritten asked before after
+  keeps : (asked : Question) (outcome : Result Answer RunFault) (status : Status) → AnswersAtOnce asked before.gives same_file outcome → Delivers outcome before after status → KeepsFilesUnlessWritten asked before after
   keeps (question.Search path out limit accept option) outcome status is delivers = tt
   keeps (question.Cut path dir rewrite only) outcome status is delivers = tt
   keeps (question.Clash path left right options) (Ok answer) status compares (written, writes, e) =
@@ -595,26 +450,35 @@ module _ (before after : World) (same_file : MayBeSame) where
       let (defined, excuses) = then_ok defines in
       let (excusal, excused, judged) = then_ok excuses in
       none_changes before after answer written (judgement_has_none alphabet (option_copied accept) excusal (table_of lines) bytes answer judged) writes
-  keeps (question.Clashes path limit first key columns option pairs) (Ok answer) status is (written, writes, e) =
-      let (alphabet, spelled, loads) = then_ok is in
-      let (loaded, are, stays) = then_ok loads in
-      let (apart, checks) = then_ok stays in
-      let (passes, defines) = then_ok checks in
-      let (defined, reads) = then_ok defines in
-      let (baseline, read, d) = then_ok reads in
-      pairs_alone answer (written_path pairs) (is_written pairs.prune d.taken d.left) (written_text pairs.prune baseline (table_of loaded.lines) loaded.lines d.found d.left) d.files written writes
-  keeps (question.Clashes path limit first key columns option pairs) (Err fault) status is (stay, still, e) = keeps_all_but (written_path pairs) stay
+  keeps (question.Clashes path limit first key columns option pairs) outcome status is delivers = absurd is
   keeps asked (Err fault) status is (stay, still, e) = stay
 
-  -- the answer to a question was delivered
-  pub asks : (asked : Question) (outcome : Result Answer RunFault) (status : Status) → Answers asked before.gives same_file outcome → Delivers outcome before after status → Asks asked same_file before after status
-  asks asked outcome status is delivers = record {
-    delivered = (outcome, is, delivers);
+  -- the answer to a question was delivered at once
+  at_once : (asked : Question) (outcome : Result Answer RunFault) (status : Status) → AnswersAtOnce asked before.gives same_file outcome
+      → (shown : World) × KeepsFiles before shown × KeepsOutput asked before shown × IsDelivered (Answers asked same_file before shown) shown after status → Delivers outcome before after status → Asks asked same_file before after status
+  at_once asked outcome status is delivered delivers = record {
+    delivered = delivered;
     files = keeps asked outcome status is delivers;
     done = λ same.
-        let (answer, ok, done, files, prints) = whole Done never_done outcome status delivers same in
-        (means asked answer (subst (Answers asked before.gives same_file) ok is) files prints).0 done;
+        let (answer, ok, done, files, prints) = whole before after Done never_done outcome status delivers same in
+        (means asked answer (subst (AnswersAtOnce asked before.gives same_file) ok is) files prints).0 done;
     refuted = λ same.
-        let (answer, ok, refuted, files, prints) = whole Refuted never_refuted outcome status delivers same in
-        (means asked answer (subst (Answers asked before.gives same_file) ok is) files prints).1 refuted;
+        let (answer, ok, refuted, files, prints) = whole before after Refuted never_refuted outcome status delivers same in
+        (means asked answer (subst (AnswersAtOnce asked before.gives same_file) ok is) files prints).1 refuted;
   }
+
+-- the answer to a question was delivered, after what was printed before
+module _ (before : World) (failures : ℕ) (contents : Option (List ℕ)) (after : World) (same_file : MayBeSame) where
+  abbrev shown : World
+  shown = world before.gives failures contents
+
+  -- where nothing was printed, the world is as it was
+  unchanged : (failures ≡ before.failures) × (contents ≡ before.contents) → shown ≡ before
+  unchanged (count, bytes) = (λ i. world before.gives (count i) (bytes i))
+
+  pub asks : (asked : Question) (outcome : Result Answer RunFault) (status : Status) → Answers asked same_file before shown outcome → KeepsOutput asked before shown → Delivers outcome shown after status
+      → Asks asked same_file before after status
+  asks (question.Clashes path limit first key columns option pairs) outcome status is quiet delivers =
+      list_asks before failures contents after same_file path limit first key columns option pairs outcome status is delivers
+  asks asked outcome status is quiet delivers =
+      at_once before after same_file asked outcome status is (shown, refl, quiet, (outcome, is, delivers)) (subst (λ (w : World). Delivers outcome w after status) (unchanged quiet) delivers)

@@ -5,7 +5,7 @@ use Rattle.std.specs.List.{enumerate_from, list_any}
 use Rattle.brl_acting.specs.WholeTable.{ActingView, acting_of_table}
 use Rattle.brl_answers.specs.Answers.{with_alphabet_line}
 use Rattle.brl_clashes.specs.Kinds.{kept}
-use Rattle.brl_cut.specs.declared.cutting.CutTable.{CutTable}
+use Rattle.brl_cut.specs.declared.outcome.CutTable.{CutTable}
 use Rattle.brl_lines.specs.GatherFaults.{gathered_view}
 use Rattle.brl_lines.specs.Lines.{LocationView}
 use Rattle.brl_table.specs.Survey.{faulty_line_view}

@@ -1,7 +1,6 @@
 -- The characters of which texts are made, as an option spells them. The project's own choice.
 use Rattle.std.specs.Prelude.{ℕ, ◌≡◌, List, [], ◌∷◌, Option, None, Some, Result, Ok, Err, string_bytes}
 use Rattle.brl_answers.specs.Answers.{EndsAs, Provided, Then}
-use Rattle.brl_answers.specs.declared.answer.Answer.{Answer}
 use Rattle.brl_answers.specs.declared.run_fault.RunFault.{RunFault}
 use Rattle.brl_answers.specs.declared.run_fault.RunFault.TheVariants.{BadLeftOut, BadOnly, Memory, NotDefined}
 use Rattle.brl_cli.specs.declared.command.AlphabetOption.{AlphabetOption}
@@ -39,9 +38,9 @@ IsMisspelled option fault = ⊥
 
 -- what is answered for the characters of which an option says that texts are made, or that it
 -- spells none
-abbrev pub ByAlphabet : AlphabetOption → (AlphabetView → Result Answer RunFault → Type 0) → Result Answer RunFault → Type 0
+abbrev pub ByAlphabet : {A : Type 0} → AlphabetOption → (AlphabetView → Result A RunFault → Type 0) → Result A RunFault → Type 0
 ByAlphabet option answers outcome = Then (λ alphabet. spelled_by option ≡ Some alphabet) (IsMisspelled option) answers outcome
 
 -- what is answered where a table has the characters of an alphabet, or which it lacks
-abbrev pub IfAllThere : TableView → AlphabetView → (Result Answer RunFault → Type 0) → Result Answer RunFault → Type 0
+abbrev pub IfAllThere : {A : Type 0} → TableView → AlphabetView → (Result A RunFault → Type 0) → Result A RunFault → Type 0
 IfAllThere t alphabet answers outcome = Provided (HasAll t alphabet) (EndsAs NotDefined (IsLacking t alphabet)) answers outcome

@@ -19,6 +19,7 @@ use Rattle.brl_lines.specs.Answer.{FileAnswer, FileAnswers, Holds, MayAnswer}
 use Rattle.brl_lines.specs.Tokens.{LineView}
 use Rattle.brl_lines.specs.declared.fault.LoadFaultKind.{LoadFaultKind}
 use Rattle.brl_lines.specs.declared.fault.LoadFaultKind.TheVariants as kinds
+use Rattle.brl_pairs.specs.declared.excused.Excused.{Excused}
 use Rattle.brl_rules.specs.TableView.{TableView}
 use Rattle.brl_tool.specs.FileBytes.{IsFileWith, LacksBytes}
 
@@ -46,24 +47,30 @@ IsBaseline gives (Some path) baseline = (text : List ℕ) × (baseline ≡ Some 
 abbrev pub names_of_table : TableView → List LineView → Names
 names_of_table t lines = names_in t lines (sets_of_table t)
 
--- What the text of a file excuses of the pairs that are listed, and how much: the number of these,
--- those of the pairs and sets that its lines name, and that of its stale lines.
-abbrev pub IsTakenOut : Names → List (ℕ × ℕ) → Bool → List ℕ → Bool → List (ℕ × ℕ) → Option Taken → Type 0
-IsTakenOut names listed whole text prune pairs taken =
+-- what the text of a file excuses, whatever is listed; nothing without one
+abbrev pub excused_by_text : Option (List ℕ) → TableView → List LineView → Excused
+excused_by_text None t lines = record { accepted = []; exchanged = [] }
+excused_by_text (Some text) t lines = excused_by (names_of_table t lines) None text
+
+-- how much it excuses of the pairs that are listed: the number of these, those of the pairs and
+-- sets that its lines name, and that of its stale lines, which are known where the list is whole
+abbrev pub taken_by : Option (List ℕ) → Bool → TableView → List LineView → List (ℕ × ℕ) → Bool → Option Taken
+taken_by None prune t lines listed whole = None
+taken_by (Some text) prune t lines listed whole =
+    let names = names_of_table t lines in
     let list = if_whole whole listed in
-    let excused = excused_by names list text in
-    (pairs ≡ excused_of excused listed)
-    × (taken ≡ Some (record {
-      listed = length pairs;
+    let excused = excused_by names None text in
+    Some (record {
+      listed = length (excused_of excused listed);
       counts = record { pairs = accepted_count excused listed; sets = sets_named names list text };
       stale = stale_count names list text;
       pruned = prune;
-    }))
+    })
 
--- what is taken out of the pairs that sections list, where a file is read; nothing without one
-abbrev pub AreExcused : Option (List ℕ) → Bool → TableView → List LineView → List Section → List (ℕ × ℕ) → Option Taken → Type 0
-AreExcused None prune t lines sections pairs taken = (pairs ≡ []) × (taken ≡ None)
-AreExcused (Some text) prune t lines sections pairs taken = IsTakenOut (names_of_table t lines) (listed_pairs sections) (are_whole sections) text prune pairs taken
+-- what is taken out of the pairs that sections list, and how much that is
+pub record AreExcused (baseline : Option (List ℕ)) (prune : Bool) (t : TableView) (lines : List LineView) (sections : List Section) (pairs : List (ℕ × ℕ)) (taken : Option Taken) : Type 0 where
+  pub pairs_are : pairs ≡ excused_of (excused_by_text baseline t lines) (listed_pairs sections)
+  pub taken_is : taken ≡ taken_by baseline prune t lines (listed_pairs sections) (are_whole sections)
 
 -- whether stale lines stay in the file
 abbrev pub leaves_stale : Option Taken → Bool
@@ -71,9 +78,13 @@ leaves_stale taken = option_map_or (λ own. not own.pruned && nat_lt 0 own.stale
 
 -- ---- The file that is written
 
--- the pairs of rules that sections list, as the text of a file
+-- pairs of rules as the text of a file
+abbrev pub text_of_listed : TableView → List LineView → List (ℕ × ℕ) → List ℕ
+text_of_listed t lines listed = accepted_text t (wording t lines) (sets_of_table t) listed
+
+-- the pairs that sections list as such a text
 abbrev pub text_of_pairs : TableView → List LineView → List Section → List ℕ
-text_of_pairs t lines sections = accepted_text t (wording t lines) (sets_of_table t) (listed_pairs sections)
+text_of_pairs t lines sections = text_of_listed t lines (listed_pairs sections)
 
 -- the files of an answer: one with a text, where a path for it is asked for and the list is whole
 abbrev pub AreFilesWith : Option (List ℕ) → Bool → List ℕ → NewFiles → Type 0
@@ -81,10 +92,13 @@ AreFilesWith None whole text files = files ≡ Nothing
 AreFilesWith (Some path) false text files = files ≡ Nothing
 AreFilesWith (Some path) true text files = IsFileWith path text files
 
--- the text of the file of accepted pairs without its stale lines
+-- the text of the file of accepted pairs without its stale lines, beside a list that may be whole
+abbrev pub pruned_by : Option (List ℕ) → TableView → List LineView → List (ℕ × ℕ) → Bool → List ℕ
+pruned_by baseline t lines listed whole = option_map_or (pruned (names_of_table t lines) (if_whole whole listed)) baseline []
+
+-- beside that of these sections
 abbrev pub pruned_text : Option (List ℕ) → TableView → List LineView → List Section → List ℕ
-pruned_text baseline t lines sections =
-    option_map_or (pruned (names_of_table t lines) (if_whole (are_whole sections) (listed_pairs sections))) baseline []
+pruned_text baseline t lines sections = pruned_by baseline t lines (listed_pairs sections) (are_whole sections)
 
 -- the path of the file that is written: that of the accepted pairs, where its stale lines are taken
 -- out, else that which gets the pairs
@@ -92,8 +106,12 @@ abbrev pub written_path : PairFiles → Option (List ℕ)
 written_path pairs = if pairs.prune then option_copied pairs.accept else option_copied pairs.write
 
 -- whether it is written: where lines are stale, or where the list is whole
+abbrev pub is_written_by : Bool → Option Taken → Bool → Bool
+is_written_by prune taken whole = if prune then option_map_or (λ own. nat_lt 0 own.stale) taken false else whole
+
+-- so it is for these sections
 abbrev pub is_written : Bool → Option Taken → List Section → Bool
-is_written prune taken left = if prune then option_map_or (λ own. nat_lt 0 own.stale) taken false else are_whole left
+is_written prune taken left = is_written_by prune taken (are_whole left)
 
 -- what is written
 abbrev pub written_text : Bool → Option (List ℕ) → TableView → List LineView → List Section → List Section → List ℕ

@@ -18,12 +18,12 @@ ByLines gives path answers outcome =
 
 -- what is answered by the files of the table at a path, whatever their lines say, or why they can't
 -- be loaded
-abbrev pub ByFiles : FileAnswers → List ℕ → (LoadedView → Result Answer RunFault → Type 0) → Result Answer RunFault → Type 0
+abbrev pub ByFiles : {A : Type 0} → FileAnswers → List ℕ → (LoadedView → Result A RunFault → Type 0) → Result A RunFault → Type 0
 ByFiles gives path answers outcome =
     Then (λ read. AreLinesOfFiles gives path read.paths read.lines) (EndsAs Load (λ fault. IsLoadFault gives path (failures.Fault fault))) answers outcome
 
 -- what is answered where no line has a fault, or the first fault
-abbrev pub IfPassing : List LineView → (Result Answer RunFault → Type 0) → Result Answer RunFault → Type 0
+abbrev pub IfPassing : {A : Type 0} → List LineView → (Result A RunFault → Type 0) → Result A RunFault → Type 0
 IfPassing lines answers outcome = Provided (PassesAll lines) (EndsAs Table (IsFaultOf lines)) answers outcome
 
 -- the lines of a table, where they are shown, and else none

@@ -12,7 +12,7 @@ use Rattle.brl_cut.specs.Cuts.{IsCut, IsCutFault, IsRead, IsUnwritten, written_r
 use Rattle.brl_cut.specs.Edits.{Texts}
 use Rattle.brl_cut.specs.Files.{file_view}
 use Rattle.brl_cut.specs.Marks.{marked_files}
-use Rattle.brl_cut.specs.declared.cutting.CutTable.{CutTable}
+use Rattle.brl_cut.specs.declared.outcome.CutTable.{CutTable}
 use Rattle.brl_answers.specs.Answers.{EndsAs, Then, UnlessMemory}
 use Rattle.brl_answers.specs.Status.{of_cut_fault}
 use Rattle.brl_answers.specs.declared.answer.Answer.{Answer}

@@ -48,7 +48,7 @@ use Rattle.brl_tool.specs.Surveying.{IsSuspectAt, Surveys, no_verdict}
 use Rattle.brl_tool.specs.Suspects.{has_unknown_opcode}
 use Rattle.brl_table.specs.Survey.{faulty_line_view}
 use Rattle.brl_acting.specs.WholeTable.{ActingView}
-use Rattle.brl_cut.specs.declared.cutting.CutTable.{CutTable}
+use Rattle.brl_cut.specs.declared.outcome.CutTable.{CutTable}
 use Rattle.brl_tool.specs.Tracing.{TracesByWord}
 use Rattle.brl_tool.specs.Unused.{ListsUnused}
 use Rattle.brl_tool.specs.Excusing.{Excuses, lines_with}
@@ -75,22 +75,34 @@ use Rattle.brl_without.specs.Tables.{IsUnambiguousWithout}
 
 -- ---- What a question is answered
 
--- the answer of a command, with the paths, texts, options and limit that it has
-abbrev pub Answers : Question → FileAnswers → MayBeSame → Result Answer RunFault → Type 0
-Answers (question.Clash path left right options) gives same outcome = ComparesByWords options gives path.now left.now right.now outcome
-Answers (question.Survey paths brief only) gives same outcome = Surveys brief only gives (map (λ path. path.now) paths.items) outcome
-Answers (question.Trace path text options) gives same outcome = TracesByWord options gives path.now text.now outcome
-Answers (question.Rules path numbers) gives same outcome = ListsByFile gives path.now numbers.items outcome
-Answers (question.Unused path limit option) gives same outcome = ListsUnused option gives path.now limit outcome
-Answers (question.Slips path columns) gives same outcome = ListsSlips gives path.now outcome
-Answers (question.Explain line) gives same outcome = Explains gives line.now outcome
-Answers (question.Cut path dir rewrite only) gives same outcome = Cuts only rewrite gives path.now dir.now outcome
-Answers (question.Check path cert accept option) gives same outcome =
+-- what a command answers at once, with the paths, texts, options and limit that it has; a list of
+-- clashes isn't answered so
+abbrev pub AnswersAtOnce : Question → FileAnswers → MayBeSame → Result Answer RunFault → Type 0
+AnswersAtOnce (question.Clash path left right options) gives same outcome = ComparesByWords options gives path.now left.now right.now outcome
+AnswersAtOnce (question.Survey paths brief only) gives same outcome = Surveys brief only gives (map (λ path. path.now) paths.items) outcome
+AnswersAtOnce (question.Trace path text options) gives same outcome = TracesByWord options gives path.now text.now outcome
+AnswersAtOnce (question.Rules path numbers) gives same outcome = ListsByFile gives path.now numbers.items outcome
+AnswersAtOnce (question.Unused path limit option) gives same outcome = ListsUnused option gives path.now limit outcome
+AnswersAtOnce (question.Slips path columns) gives same outcome = ListsSlips gives path.now outcome
+AnswersAtOnce (question.Explain line) gives same outcome = Explains gives line.now outcome
+AnswersAtOnce (question.Cut path dir rewrite only) gives same outcome = Cuts only rewrite gives path.now dir.now outcome
+AnswersAtOnce (question.Check path cert accept option) gives same outcome =
     ChecksAll gives path.now cert.now (option_copied accept) option outcome
-Answers (question.Search path out limit accept option) gives same outcome =
+AnswersAtOnce (question.Search path out limit accept option) gives same outcome =
     Searches gives same path.now out.now (option_copied accept) limit option outcome
-Answers (question.Clashes path limit first key columns option pairs) gives same outcome =
-    Diagnoses option gives same path.now limit (form_by columns first key) pairs outcome
+AnswersAtOnce asked gives same outcome = ⊥
+
+-- what a command answers, after what it printed: a list of clashes prints its sections when they
+-- are found
+abbrev pub Answers : Question → MayBeSame → World → World → Result Answer RunFault → Type 0
+Answers (question.Clashes path limit first key columns option pairs) same before shown outcome =
+    Diagnoses option same path.now limit (form_by columns first key) pairs before shown outcome
+Answers asked same before shown outcome = AnswersAtOnce asked before.gives same outcome
+
+-- other commands print nothing before they answer
+abbrev pub KeepsOutput : Question → World → World → Type 0
+KeepsOutput (question.Clashes path limit first key columns option pairs) before shown = Unit {0}
+KeepsOutput asked before shown = (shown.failures ≡ before.failures) × (shown.contents ≡ before.contents)
 
 -- ---- What the status says of a question
 
@@ -143,11 +155,12 @@ pub record WritesList (before after : World) (path : List ℕ) (alphabet : Alpha
   pub form : ListForm
   pub baseline : Option (List ℕ)
   pub read : IsBaseline before.gives (option_copied pairs.accept) baseline
+  pub printed : List ℕ
   pub answer : Answer
-  pub is : IsDiagnosis alphabet (table_of lines) lines limit form baseline pairs answer
+  pub is : IsDiagnosis alphabet (table_of lines) lines limit form baseline pairs printed answer
   pub accepted_are : accepted ≡ is.accepted
   pub whole : IsTrue (are_whole is.left)
-  pub prints : Prints before after (string_bytes answer.text)
+  pub prints : Prints before after (printed ++ string_bytes answer.text)
   pub written : WritesFile before after (written_path pairs) (is_written pairs.prune is.taken is.left) (written_text pairs.prune baseline (table_of lines) lines is.found is.left)
 
 -- a list of clashes was written of the table of the file at the path, by which two texts clash that
@@ -303,9 +316,10 @@ KeepsFilesRefuted (question.Cut path dir rewrite only) before after = WritesTabl
 KeepsFilesRefuted (question.Clashes path limit first key columns option pairs) before after = KeepsFilesBut (written_path pairs) before after
 KeepsFilesRefuted asked before after = KeepsFiles before after
 
--- a question was asked: its answer was delivered, and the status means what it says
+-- a question was asked: its answer was delivered after what was printed before, and the status
+-- means what it says
 pub record Asks (asked : Question) (same : MayBeSame) (before after : World) (status : Status) : Type 0 where
-  pub delivered : IsDelivered (Answers asked before.gives same) before after status
+  pub delivered : (shown : World) × KeepsFiles before shown × KeepsOutput asked before shown × IsDelivered (Answers asked same before shown) shown after status
   pub files : KeepsFilesUnlessWritten asked before after
   pub done : status ≡ Done → MeansDone asked before after
   pub refuted : status ≡ Refuted → MeansRefuted asked before after × KeepsFilesRefuted asked before after

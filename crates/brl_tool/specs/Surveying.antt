@@ -11,7 +11,7 @@ use Rattle.brl_table.specs.declared.readable.Cut.{Cut}
 use Rattle.brl_acting.specs.WholeTable.{ActingView}
 use Rattle.brl_cli.specs.declared.command.AlphabetOption.TheVariants as options
 use Rattle.brl_cut.specs.Cuts.{IsCut, IsCutFault}
-use Rattle.brl_cut.specs.declared.cutting.CutTable.{CutTable}
+use Rattle.brl_cut.specs.declared.outcome.CutTable.{CutTable}
 use Rattle.brl_cut.specs.Skipping.{AreLinesWithout, IsUnloaded}
 use Rattle.brl_report.specs.Survey.{IsSurveyText, skipped_line}
 use Rattle.brl_answers.specs.Answers.{EndsAs, HasTextAndStatus, UnlessMemory}

@@ -1,29 +1,32 @@
 //! The files of pairs of rules of `brl clashes`: what one excuses, and what is written.
 ghost use Rattle.std.specs.Prelude.{◌≡◌, IfErr, IfOk, OnOk, if◌then◌else◌, length, map, option_map, string_bytes};
 ghost use Rattle.std.specs.Option.{option_copied};
-ghost use Rattle.brl_accepted.specs.Reading.{accepted_count, if_whole as list_if_whole, names_of, pruned};
+ghost use Rattle.brl_accepted.specs.Reading.{accepted_count as accepted_among, excused_of, if_whole as list_if_whole};
 ghost use Rattle.brl_lines.specs.Views.{line_view};
 ghost use Rattle.brl_tool.specs.Baselines.{
-  AreExcused,
   AreFilesWith,
   IsApart,
   IsOverwritingRead,
-  IsTakenOut,
-  is_written as is_to_be_written,
+  excused_by_text,
+  is_written_by,
   only_read as paths_only_read,
-  pruned_text,
+  pruned_by,
   read_paths as paths_of_read,
-  text_of_pairs,
+  taken_by,
+  text_of_listed,
   written_path as path_to_write,
 };
 
 use crate::same_file::path_of_file;
-use brl_accepted::{Counts, Excusal, Nameable, StaleLines, read_excusal, write_accepted};
+use brl_accepted::{
+    Counts, Excusal, Nameable, StaleLines, accepted_count, excused_count, read_excusal,
+    write_accepted,
+};
 use brl_answers::{Files, NewFile, NewFiles, RunFault};
-use brl_clashes::{Section, Taken, are_whole, character_sets, pairs_of_sections};
+use brl_clashes::{ListRequest, Taken, Tally, character_sets};
 use brl_cli::PairFiles;
 use brl_lines::{Line, Loaded};
-use brl_pairs::RulePairs;
+use brl_pairs::{Excused, RulePairs};
 use brl_rules::Table;
 use std::alloc::{AllocError, Global};
 
@@ -99,67 +102,82 @@ pub struct Baseline<'a> {
     pub text: &'a str,
 }
 
-/// What a file takes out of the sections of a table, and its stale lines.
+/// What a file excuses of the pairs of a list, and its stale lines.
 #[derive(Drop)]
 pub struct Exempt {
-    /// The pairs of rules that the sections list and that are excused.
-    pub pairs: Vec<(u32, u32)>,
-    /// How much is taken out, where a file is read.
+    /// How much it excuses, where a file is read.
     pub taken: Option<Taken>,
     pub stale: StaleLines,
     /// The text of the file without its stale lines.
     pub kept: String,
 }
 
-/// What a file excuses of the pairs that the sections of a table of these lines list; nothing
-/// without a file.
-pub fn excused_pairs(
+/// What a file excuses, whatever is listed; nothing without a file.
+pub fn excused_by(
     alloc: Global,
     table: &Table,
     lines: &[Line<'_>],
-    sections: &[Section],
+    baseline: Option<Baseline<'_>>,
+) -> Result<Excused, AllocError>
+    ensures { IfOk result (λ excused. excused ≡ excused_by_text (option_map (λ file. file.text.now) baseline.entry) table.now (map line_view lines.now)) }
+{
+    let Some(file) = baseline else {
+        return Ok(Excused::nothing(alloc));
+    };
+    let sets = character_sets(alloc, table)?;
+    let known = Nameable::new(table, lines, sets.as_slice());
+    let excusal = read_excusal(alloc, known, None, file.path, file.text)?;
+    Ok(excusal.excused)
+}
+
+/// How much a file excuses of the pairs that the sections of a list have, and its stale lines;
+/// nothing without a file. The list is beside what it excuses.
+pub fn exempt_by(
+    alloc: Global,
+    asked: ListRequest<'_>,
+    tally: &Tally,
     baseline: Option<Baseline<'_>>,
     prune: bool,
 ) -> Result<Exempt, AllocError>
-    ensures excuses { IfOk result (λ exempt. AreExcused (option_map (λ file. file.text.now) baseline.entry) prune table.now (map line_view lines.now) sections.now exempt.pairs.items exempt.taken) }
-    ensures kept { IfOk result (λ exempt. string_bytes exempt.kept ≡ pruned_text (option_map (λ file. file.text.now) baseline.entry) table.now (map line_view lines.now) sections.now) }
+    requires { asked.excused.now ≡ excused_by_text (option_map (λ file. file.text.now) baseline) asked.table.now (map line_view asked.lines.now) }
+    ensures taken { IfOk result (λ exempt. exempt.taken ≡ taken_by (option_map (λ file. file.text.now) baseline.entry) prune asked.entry.table.now (map line_view asked.entry.lines.now) tally.now.found tally.now.whole) }
+    ensures kept { IfOk result (λ exempt. string_bytes exempt.kept ≡ pruned_by (option_map (λ file. file.text.now) baseline.entry) asked.entry.table.now (map line_view asked.entry.lines.now) tally.now.found tally.now.whole) }
 {
     let Some(file) = baseline else {
         return Ok(Exempt {
-            pairs: Vec::new(alloc),
             taken: None,
             stale: StaleLines(Vec::new(alloc)),
             kept: String::new(alloc),
         });
     };
-    let sets = character_sets(alloc, table)?;
-    let known = Nameable::new(table, lines, sets.as_slice());
-    let listed = RulePairs::new(alloc, pairs_of_sections(alloc, sections)?)?;
-    exempt_by(alloc, known, &listed, are_whole(sections), file, prune)
-}
-
-/// What a file excuses of the pairs that are listed, which may be the whole list.
-fn exempt_by(
-    alloc: Global,
-    known: Nameable<'_>,
-    listed: &RulePairs,
-    whole: bool,
-    file: Baseline<'_>,
-    prune: bool,
-) -> Result<Exempt, AllocError>
-    ensures excuses { IfOk result (λ exempt. IsTakenOut (names_of known.entry) listed.now whole file.entry.text.now prune exempt.pairs.items exempt.taken) }
-    ensures kept { IfOk result (λ exempt. string_bytes exempt.kept ≡ pruned (names_of known.entry) (list_if_whole whole listed.now) file.entry.text.now) }
-{
-    let excusal = read_excusal(alloc, known, if_whole(whole, listed), file.path, file.text)?;
-    let pairs = excusal.excused_of(alloc, listed.as_slice())?;
-    let taken = taken_of(&excusal, listed.as_slice(), pairs.len(), prune);
+    let sets = character_sets(alloc, asked.table)?;
+    let known = Nameable::new(asked.table, asked.lines, sets.as_slice());
+    let listed = RulePairs::new(alloc, tally.found.to_vec(alloc)?)?;
+    let list = if_whole(tally.whole, &listed);
+    let excusal = read_excusal(alloc, known, list, file.path, file.text)?;
+    let taken = taken_of(asked.excused, &excusal, listed.as_slice(), prune);
     let Excusal { stale, kept, .. } = excusal;
     Ok(Exempt {
-        pairs,
         taken: Some(taken),
         stale: StaleLines(stale),
         kept,
     })
+}
+
+/// The numbers that an answer gives of a file: what it excuses, beside its stale lines, of the
+/// pairs that are listed.
+fn taken_of(excused: &Excused, excusal: &Excusal, listed: &[(u32, u32)], prune: bool) -> Taken
+    ensures { result ≡ record { listed = length (excused_of excused.now listed.now); counts = record { pairs = accepted_among excused.now listed.now; sets = excusal.now.sets }; stale = length excusal.now.stale.items; pruned = prune } }
+{
+    Taken {
+        listed: excused_count(excused, listed),
+        counts: Counts {
+            pairs: accepted_count(excused, listed),
+            sets: excusal.sets,
+        },
+        stale: excusal.stale.len(),
+        pruned: prune,
+    }
 }
 
 /// A list of pairs, where it is whole.
@@ -169,86 +187,68 @@ fn if_whole(whole: bool, listed: &RulePairs) -> Option<&RulePairs>
     if whole { Some(listed) } else { None }
 }
 
-/// The numbers that an answer gives of a file, which excuses `excused` of the listed pairs.
-fn taken_of(excusal: &Excusal, listed: &[(u32, u32)], excused: usize, prune: bool) -> Taken
-    ensures { result ≡ record { listed = excused; counts = record { pairs = accepted_count excusal.now.excused listed.now; sets = excusal.now.sets }; stale = length excusal.now.stale.items; pruned = prune } }
-{
-    Taken {
-        listed: excused,
-        counts: Counts {
-            pairs: excusal.accepted_count(listed),
-            sets: excusal.sets,
-        },
-        stale: excusal.stale.len(),
-        pruned: prune,
-    }
-}
-
 /// The file that is written: the file of accepted pairs without its stale lines, where it has some
 /// and these are to be taken out; else the file with the pairs of rules that are left, where a path
 /// is given for it and the list is whole.
 pub fn file_of_pairs(
     alloc: Global,
-    table: &Table,
-    lines: &[Line<'_>],
+    asked: ListRequest<'_>,
     exempt: &Exempt,
-    left: &[Section],
+    tally: &Tally,
     pairs: PairFiles<'_>,
 ) -> Result<NewFiles, AllocError>
-    ensures { IfOk result (AreFilesWith (path_to_write pairs.entry) (is_to_be_written pairs.entry.prune exempt.now.taken left.now)
-        (if pairs.entry.prune then string_bytes exempt.now.kept else text_of_pairs table.now (map line_view lines.now) left.now)) }
+    ensures { IfOk result (AreFilesWith (path_to_write pairs.entry) (is_written_by pairs.entry.prune exempt.now.taken tally.now.whole)
+        (if pairs.entry.prune then string_bytes exempt.now.kept else text_of_listed asked.entry.table.now (map line_view asked.entry.lines.now) tally.now.left)) }
 {
     let Some(path) = written_path(pairs) else {
         return Ok(NewFiles::Nothing);
     };
-    if !is_written(pairs.prune, exempt.taken, left) {
+    if !is_written(pairs.prune, exempt.taken, tally.whole) {
         return Ok(NewFiles::Nothing);
     }
     let path = String::from_str(alloc, path)?;
-    let bytes = content(alloc, table, lines, exempt, left, pairs.prune)?;
+    let bytes = content(alloc, asked, exempt, tally, pairs.prune)?;
     Ok(NewFiles::InPlace(NewFile { path, bytes }))
 }
 
 /// What is written.
 fn content(
     alloc: Global,
-    table: &Table,
-    lines: &[Line<'_>],
+    asked: ListRequest<'_>,
     exempt: &Exempt,
-    left: &[Section],
+    tally: &Tally,
     prune: bool,
 ) -> Result<Vec<u8>, AllocError>
-    ensures { IfOk result (λ bytes. bytes.items ≡ (if prune then string_bytes exempt.now.kept else text_of_pairs table.now (map line_view lines.now) left.now)) }
+    ensures { IfOk result (λ bytes. bytes.items ≡ (if prune then string_bytes exempt.now.kept else text_of_listed asked.entry.table.now (map line_view asked.entry.lines.now) tally.now.left)) }
 {
     if prune {
         return Vec::from_slice(alloc, exempt.kept.as_bytes());
     }
-    let text = pairs_text(alloc, table, lines, left)?;
+    let pairs = tally.left.to_vec(alloc)?;
+    let text = pairs_text(alloc, asked, pairs.as_slice())?;
     Ok(text.into_bytes())
 }
 
-/// The text of a file with the pairs of a table's rules that these sections list.
+/// The text of a file with these pairs of a table's rules.
 fn pairs_text(
     alloc: Global,
-    table: &Table,
-    lines: &[Line<'_>],
-    sections: &[Section],
+    asked: ListRequest<'_>,
+    pairs: &[(u32, u32)],
 ) -> Result<String, AllocError>
-    ensures { IfOk result (λ text. string_bytes text ≡ text_of_pairs table.now (map line_view lines.now) sections.now) }
+    ensures { IfOk result (λ text. string_bytes text ≡ text_of_listed asked.entry.table.now (map line_view asked.entry.lines.now) pairs.now) }
 {
-    let sets = character_sets(alloc, table)?;
-    let known = Nameable::new(table, lines, sets.as_slice());
-    let pairs = pairs_of_sections(alloc, sections)?;
-    write_accepted(alloc, known, pairs.as_slice())
+    let sets = character_sets(alloc, asked.table)?;
+    let known = Nameable::new(asked.table, asked.lines, sets.as_slice());
+    write_accepted(alloc, known, pairs)
 }
 
 /// Whether a file is written: where lines are stale that are to be taken out, or where the list is
 /// whole.
-fn is_written(prune: bool, taken: Option<Taken>, left: &[Section]) -> bool
-    ensures { result ≡ is_to_be_written prune taken left.now }
+fn is_written(prune: bool, taken: Option<Taken>, whole: bool) -> bool
+    ensures { result ≡ is_written_by prune taken whole }
 {
     if !prune {
-        return are_whole(left);
+        return whole;
     }
     match taken {
         Some(taken) => taken.stale > 0,

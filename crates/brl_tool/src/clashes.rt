@@ -1,29 +1,30 @@
 //! `brl clashes`: every pair of rules of a table at which clashing texts diverge.
-ghost use Rattle.std.specs.Prelude.{◌≡◌, IfOk, map, option_map, string_bytes};
+ghost use Rattle.std.specs.Prelude.{◌≡◌, IfErr, IfOk, List, Some, map, option_map, string_bytes, ℕ};
 ghost use Rattle.std.specs.Option.{option_copied};
+ghost use Rattle.brl_answers.specs.Answers.{load_outcome};
+ghost use Rattle.brl_answers.specs.Delivery.{world};
+ghost use Rattle.brl_clashes.specs.Showing.{asked_of};
+ghost use Rattle.brl_lines.specs.Answer.{FileAnswers};
 ghost use Rattle.brl_lines.specs.Outcome.{CountsFailure};
 ghost use Rattle.brl_lines.specs.Views.{line_view};
-ghost use Rattle.brl_answers.specs.Answers.{UnlessMemory, load_outcome};
-ghost use Rattle.brl_clashes.specs.Sections.{AreSections};
+ghost use Rattle.brl_tool.specs.Baselines.{IsBaseline, IsFaultOfText, excused_by_text, leaves_stale as stale_stay};
+ghost use Rattle.brl_tool.specs.Diagnosing.{AnswersTally, Diagnoses, Lists, ReadsInput, status_of_sections};
 ghost use Rattle.brl_without.specs.Alphabet.{alphabet_view, left_out_by};
-ghost use Rattle.brl_tool.specs.Baselines.{AreExcused, leaves_stale as stale_stay, pruned_text};
-ghost use Rattle.brl_tool.specs.Diagnosing.{ByBaseline, Diagnoses, IsDiagnosis, status_of_sections};
 
+use crate::Output;
 use crate::alphabet::alphabet_of;
-use crate::baselines::{Baseline, Exempt, excused_pairs, file_of_pairs, refuse_file_that_is_read};
+use crate::baselines::{Baseline, excused_by, exempt_by, file_of_pairs, refuse_file_that_is_read};
 use crate::file_text::text_at;
 use crate::loaded_table::LoadedTable;
 use crate::notices::write_if_without_characters;
 use brl_accepted::StaleLines;
 use brl_answers::{Answer, Files, RunFault, Status};
 use brl_clashes::{
-    Extent, ListForm, ListOutcome, Section, Taken, list_sections, outcome_of, sections_text,
-    without_accepted,
+    ListForm, ListOutcome, ListRequest, Taken, Tally, last_lines, show_list, verdict_text,
 };
 use brl_cli::{AlphabetOption, PairFiles};
-use brl_lines::{Line, load};
+use brl_lines::load;
 use brl_progress::Progress;
-use brl_rules::Table;
 use brl_without::{Alphabet, LeftOut};
 use std::alloc::{AllocError, Global};
 use std::io::Write;
@@ -40,32 +41,48 @@ pub struct ListedClashes<'a> {
     pub pairs: PairFiles<'a>,
 }
 
-/// What is listed of the clashes of a table that is loaded: `left_out` is what the alphabet leaves
-/// out of it.
-#[derive(Clone, Copy)]
-struct ListRequest<'a> {
-    limit: u32,
-    form: ListForm<'a>,
-    alphabet: &'a Alphabet,
-    left_out: &'a LeftOut,
-    pairs: PairFiles<'a>,
+/// What a list is made of: a table and its files, the alphabet of its texts, the characters of the
+/// table that this leaves out, and the text of the file of accepted pairs.
+#[derive(Drop)]
+pub struct ListInput {
+    pub loaded: LoadedTable,
+    pub alphabet: Alphabet,
+    pub left_out: LeftOut,
+    pub baseline: Option<String>,
 }
 
 /// Lists the pairs of rules of the table whose file is at a path at which clashing texts diverge,
-/// for texts of the characters of which the option says that they are made. It is read first. The
-/// pairs that the file at `pairs.accept` names are left out, and those that are left go to the file
-/// at `pairs.write`, unless there may be others. Its stale lines name none; with `pairs.prune` they
-/// are taken out of it. Standard error gets these lines, and reports of progress.
-/// `PairsWouldOverwrite` where the file that is written is one of the table's, or that of the
-/// accepted pairs and not its own; `NotDefined` where the table lacks characters of the option.
-pub fn list_clashes_by_words<F: Files, E: Write + Progress>(
+/// for texts of the characters of which the option says that they are made. Sections are printed
+/// when they are found; the answer has what comes after them. The pairs that the file at
+/// `pairs.accept` names are left out, and those that are left go to the file at `pairs.write`,
+/// unless there may be others. Its stale lines name none; with `pairs.prune` they are taken out of
+/// it. Standard error gets these lines, and reports of progress. `PairsWouldOverwrite` where the
+/// file that is written is one of the table's, or that of the accepted pairs and not its own;
+/// `NotDefined` where the table lacks characters of the option; `OutputFailed` where a section
+/// can't be printed. Before another fault but `Memory` nothing is printed.
+pub fn list_clashes_by_words<F: Files, O: Output, E: Write + Progress>(
     alloc: Global,
     files: &mut F,
     asked: ListedClashes<'_>,
+    out: &mut O,
     err: &mut E,
 ) -> Result<Answer, RunFault>
-    ensures diagnoses { Diagnoses asked.entry.option (F.gives files.old) F.same_file asked.entry.table.now asked.entry.limit asked.entry.form
-        asked.entry.pairs result }
+    ensures diagnoses { Diagnoses asked.entry.option F.same_file asked.entry.table.now asked.entry.limit asked.entry.form asked.entry.pairs
+        (world (F.gives files.old) (O.failures out.old) (O.contents out.old)) (world (F.gives files.new) (O.failures out.new) (O.contents out.new)) result }
+    ensures count { CountsFailure (F.faults files.old) (F.faults files.new) (load_outcome result) }
+    ensures same { F.gives files.new ≡ F.gives files.old }
+{
+    let input = read_input(alloc, files, asked)?;
+    list_clashes(alloc, &input, asked, out, err)
+}
+
+/// Reads what a list is made of. The file of accepted pairs is read before the work.
+fn read_input<F: Files>(
+    alloc: Global,
+    files: &mut F,
+    asked: ListedClashes<'_>,
+) -> Result<ListInput, RunFault>
+    ensures reads { ReadsInput asked.entry.option (F.gives files.old) F.same_file asked.entry.table.now asked.entry.pairs result }
     ensures count { CountsFailure (F.faults files.old) (F.faults files.new) (load_outcome result) }
     ensures same { F.gives files.new ≡ F.gives files.old }
 {
@@ -74,66 +91,72 @@ pub fn list_clashes_by_words<F: Files, E: Write + Progress>(
     refuse_file_that_is_read(alloc, files, &read, asked.pairs)?;
     let loaded = LoadedTable::of(alloc, read)?;
     let left_out = alphabet.left_out(alloc, &loaded.table)?;
-    let request = ListRequest {
-        limit: asked.limit,
-        form: asked.form,
-        alphabet: &alphabet,
-        left_out: &left_out,
-        pairs: asked.pairs,
-    };
-    list_clashes(alloc, files, &loaded, request, err)
+    let baseline = baseline_text(alloc, files, asked.pairs.accept)?;
+    Ok(ListInput {
+        loaded,
+        alphabet,
+        left_out,
+        baseline,
+    })
 }
 
-/// Lists the clashes of a table that has the characters of the alphabet. The file of accepted pairs
-/// is read before the work.
-fn list_clashes<F: Files, E: Write + Progress>(
+/// The text of the file of accepted pairs, where one is asked for.
+fn baseline_text<F: Files>(
     alloc: Global,
     files: &mut F,
-    loaded: &LoadedTable,
-    request: ListRequest<'_>,
-    err: &mut E,
-) -> Result<Answer, RunFault>
-    requires { request.left_out.now ≡ left_out_by loaded.now.table (alphabet_view request.alphabet.now) }
-    ensures diagnoses { ByBaseline (F.gives files.old) (option_copied request.entry.pairs.accept)
-        (λ baseline. UnlessMemory (IsDiagnosis (alphabet_view request.entry.alphabet.now) loaded.now.table loaded.now.files.lines request.entry.limit request.entry.form
-        baseline request.entry.pairs)) result }
+    accept: Option<&str>,
+) -> Result<Option<String>, RunFault>
+    ensures text { IfOk result (λ text. IsBaseline (F.gives files.old) (option_copied accept.entry) (option_map string_bytes text)) }
+    ensures fault { IfErr result (λ fault. (path : List ℕ) × (option_copied accept.entry ≡ Some path) × IsFaultOfText (F.gives files.old) path fault) }
     ensures count { CountsFailure (F.faults files.old) (F.faults files.new) (load_outcome result) }
     ensures same { F.gives files.new ≡ F.gives files.old }
 {
-    let Some(path) = request.pairs.accept else {
-        return Ok(diagnosis(alloc, loaded, request, None, err)?);
-    };
-    let text = text_at(alloc, files, path)?;
-    let baseline = Baseline {
-        path,
-        text: text.as_str(),
-    };
-    Ok(diagnosis(alloc, loaded, request, Some(baseline), err)?)
+    match accept {
+        Some(path) => Ok(Some(text_at(alloc, files, path)?)),
+        None => Ok(None),
+    }
 }
 
-/// Lists a table's clashes beside the pairs that a file excuses. Standard error hears of it first
-/// where no line defines a character.
-fn diagnosis<E: Write + Progress>(
+/// Lists the clashes of what was read. Standard error hears of it first where no line defines a
+/// character.
+fn list_clashes<O: Output, E: Write + Progress>(
     alloc: Global,
-    loaded: &LoadedTable,
-    request: ListRequest<'_>,
-    baseline: Option<Baseline<'_>>,
+    input: &ListInput,
+    asked: ListedClashes<'_>,
+    out: &mut O,
     err: &mut E,
-) -> Result<Answer, AllocError>
-    requires { request.left_out.now ≡ left_out_by loaded.now.table (alphabet_view request.alphabet.now) }
-    ensures { IfOk result (IsDiagnosis (alphabet_view request.entry.alphabet.now) loaded.now.table loaded.now.files.lines request.entry.limit request.entry.form
-        (option_map (λ file. file.text.now) baseline.entry) request.entry.pairs) }
+) -> Result<Answer, RunFault>
+    requires { input.now.left_out ≡ left_out_by input.now.loaded.table (alphabet_view input.now.alphabet) }
+    ensures { (gives : FileAnswers) → Lists asked.entry.limit asked.entry.form asked.entry.pairs (world gives (O.failures out.old) (O.contents out.old))
+        (world gives (O.failures out.new) (O.contents out.new)) input.now result }
 {
-    let table = &loaded.table;
+    let table = &input.loaded.table;
     write_if_without_characters(table, err);
-    let limit = u64::from(request.limit);
-    let sections = list_sections(alloc, table, limit, request.left_out, err)?;
-    let lines = loaded.files.lines(alloc)?;
+    let lines = input.loaded.files.lines(alloc)?;
     let lines = lines.as_slice();
-    let prune = request.pairs.prune;
-    let exempt = excused_pairs(alloc, table, lines, sections.as_slice(), baseline, prune)?;
-    write_stale(&exempt.stale, err);
-    answer_beside(alloc, table, lines, request, baseline, &exempt, sections)
+    let baseline = baseline_of(input, asked.pairs);
+    let excused = excused_by(alloc, table, lines, baseline)?;
+    let request = ListRequest {
+        table,
+        lines,
+        left_out: &input.left_out,
+        excused: &excused,
+        limit: asked.limit,
+        form: asked.form,
+    };
+    let tally = show_list(alloc, request, out, err)?;
+    Ok(answer_after(alloc, input, asked.pairs, request, baseline, &tally, err)?)
+}
+
+/// The file of accepted pairs, where one was read.
+fn baseline_of<'a>(input: &'a ListInput, pairs: PairFiles<'a>) -> Option<Baseline<'a>>
+    ensures { option_map (λ file. file.text.now) result ≡ option_map string_bytes input.now.baseline }
+{
+    let text = input.baseline.as_ref()?;
+    Some(Baseline {
+        path: pairs.accept.unwrap_or_default(),
+        text: text.as_str(),
+    })
 }
 
 /// Writes the stale lines of a file to standard error. What can't be written there is dropped.
@@ -143,36 +166,28 @@ fn write_stale<E: Write>(stale: &StaleLines, err: &mut E) {
     }
 }
 
-/// The answer with the sections of a table, beside the pairs that a file excuses.
-fn answer_beside(
+/// What comes after the sections of a list: its verdict, the status, and the file that is written.
+/// Standard error gets the stale lines of the file of accepted pairs.
+fn answer_after<E: Write>(
     alloc: Global,
-    table: &Table,
-    lines: &[Line<'_>],
+    input: &ListInput,
+    pairs: PairFiles<'_>,
     request: ListRequest<'_>,
     baseline: Option<Baseline<'_>>,
-    exempt: &Exempt,
-    sections: Vec<Section>,
+    tally: &Tally,
+    err: &mut E,
 ) -> Result<Answer, AllocError>
-    requires left_out { request.left_out.now ≡ left_out_by table.now (alphabet_view request.alphabet.now) }
-    requires sections { AreSections table.now (left_out_by table.now (alphabet_view request.alphabet.now)) request.limit sections.items }
-    requires excused { AreExcused (option_map (λ file. file.text.now) baseline) request.pairs.prune table.now (map line_view lines.now) sections.items exempt.now.pairs.items exempt.now.taken }
-    requires kept { string_bytes exempt.now.kept ≡ pruned_text (option_map (λ file. file.text.now) baseline) table.now (map line_view lines.now) sections.items }
-    ensures { IfOk result (IsDiagnosis (alphabet_view request.entry.alphabet.now) table.now (map line_view lines.now) request.entry.limit request.entry.form
-        (option_map (λ file. file.text.now) baseline.entry) request.entry.pairs) }
+    requires { request.excused.now ≡ excused_by_text (option_map (λ file. file.text.now) baseline) request.table.now (map line_view request.lines.now) }
+    ensures { IfOk result (AnswersTally (alphabet_view input.now.alphabet) (asked_of request.entry) (option_map (λ file. file.text.now) baseline.entry) pairs.entry tally.now) }
 {
-    let left = without_accepted(alloc, exempt.pairs.as_slice(), sections)?;
-    let status = status_of(exempt.taken, outcome_of(left.as_slice()));
-    let files = file_of_pairs(alloc, table, lines, exempt, left.as_slice(), request.pairs)?;
-    let shown = Extent {
-        alphabet: request.alphabet,
-        left_out: request.left_out,
-        form: request.form,
-        accepted: exempt.taken,
-    };
-    let text = sections_text(alloc, table, lines, shown, left)?;
+    let exempt = exempt_by(alloc, request, tally, baseline, pairs.prune)?;
+    write_stale(&exempt.stale, err);
+    let files = file_of_pairs(alloc, request, &exempt, tally, pairs)?;
+    let verdict = verdict_text(alloc, tally, exempt.taken)?;
+    let text = last_lines(alloc, request.form, &input.alphabet, verdict)?;
     Ok(Answer {
         text,
-        status,
+        status: status_of(exempt.taken, tally.outcome()),
         files,
     })
 }

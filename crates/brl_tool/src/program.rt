@@ -2,7 +2,7 @@
 ghost use Rattle.std.specs.Prelude.{◌≡◌};
 ghost use Rattle.brl_answers.specs.Delivery.{world};
 ghost use Rattle.brl_tool.specs.Diagnosing.{form_by};
-ghost use Rattle.brl_tool.specs.Running.{Answers, Asks, IsStatus, MayGainFiles, Performs, Replies, ReportsOne, Runs, Translates};
+ghost use Rattle.brl_tool.specs.Running.{Answers, Asks, IsStatus, KeepsOutput, MayGainFiles, Performs, Replies, ReportsOne, Runs, Translates};
 
 use crate::check::{CheckedFiles, check_by_words};
 use crate::clash::compare_by_words;
@@ -143,7 +143,8 @@ fn translate<F: Files, I: Input, O: Output, E: Write>(
     }
 }
 
-/// Answers a question, and delivers the answer. Standard error hears of the end of the work before.
+/// Answers a question, and delivers the answer after what a list of clashes printed. Standard error
+/// hears of the end of the work before.
 fn ask<F: Files, O: Output, E: Write + Progress>(
     alloc: Global,
     question: Question<'_>,
@@ -155,7 +156,7 @@ fn ask<F: Files, O: Output, E: Write + Progress>(
         (world (F.gives files.new) (O.failures out.new) (O.contents out.new)) result }
 {
     let quiet = !decides(&question);
-    let outcome = answer(alloc, question, files, err);
+    let outcome = answer(alloc, question, files, out, err);
     err.end();
     deliver(alloc, outcome, quiet, files, out, err)
 }
@@ -169,14 +170,18 @@ fn decides(question: &Question<'_>) -> bool {
     )
 }
 
-/// The answer to a question.
-fn answer<F: Files, E: Write + Progress>(
+/// The answer to a question. The sections of a list of clashes are printed when they are found.
+fn answer<F: Files, O: Output, E: Write + Progress>(
     alloc: Global,
     question: Question<'_>,
     files: &mut F,
+    out: &mut O,
     err: &mut E,
 ) -> Result<Answer, RunFault>
-    ensures answers { Answers question.entry (F.gives files.old) F.same_file result }
+    ensures answers { Answers question.entry F.same_file (world (F.gives files.old) (O.failures out.old) (O.contents out.old))
+        (world (F.gives files.new) (O.failures out.new) (O.contents out.new)) result }
+    ensures quiet { KeepsOutput question.entry (world (F.gives files.old) (O.failures out.old) (O.contents out.old))
+        (world (F.gives files.new) (O.failures out.new) (O.contents out.new)) }
     ensures same { F.gives files.new ≡ F.gives files.old }
 {
     match question {
@@ -266,7 +271,7 @@ fn answer<F: Files, E: Write + Progress>(
                 option: alphabet,
                 pairs,
             };
-            list_clashes_by_words(alloc, files, asked, err)
+            list_clashes_by_words(alloc, files, asked, out, err)
         }
     }
 }

@@ -12,5 +12,6 @@ mod progress;
 mod report;
 mod runs;
 mod searches;
+mod sections;
 mod slips;
 mod streams;

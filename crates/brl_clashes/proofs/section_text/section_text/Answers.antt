@@ -20,14 +20,14 @@ text_of form taken kind count number more some whole all head text body head_is 
 -- the texts of the new clashes clash
 pub body-requires : goal.body-requires
 body-requires c =
-    let t = c.args.table.now in
+    let t = c.args.asked.table.now in
     let before = c.args.listed.now in
     let all : AreClashesOf t c.into_clashes.result.items = subst (AreClashesOf t) (sym c.into_clashes.ensures) c.requires in
     subst (AreClashesOf t) (sym c.new_clashes-new.ensures) (new_clash t before c.into_clashes.result.items all)
 
 pub returns-clause-text : goal.returns-clause-text
 returns-clause-text c =
-    let t = c.args.table.now in
+    let t = c.args.asked.table.now in
     let before = c.args.listed.now in
     let s = c.args.section in
     let new = c.new_clashes-new.result.items in
@@ -36,12 +36,12 @@ returns-clause-text c =
     let counted : c.len-count.result ≡ length new = omega (arith, c.len-count.ensures, c.new_clashes-new.result.ok.0) in
     let after_is : c.push_rules.new.listed ≡ listed_after before s =
     c.in_ok-push_rules.ensures ∙ ap (λ (cs : List RuleClash). before ++ rules_of_clashes cs) (c.as_slice.ensures.value ∙ new_is) in
-    let is : IsBody t (map line_view c.args.lines.now) c.args.firsts.now (listed_after before s) c.args.shown.form s.kind (new_in before s) body =
-    subst (λ (cs : List RuleClash). IsBody t (map line_view c.args.lines.now) c.args.firsts.now (listed_after before s) c.args.shown.form s.kind cs body) new_is
-    (subst (λ (ls : List (ℕ × ℕ)). IsBody t (map line_view c.args.lines.now) c.args.firsts.now ls c.args.shown.form s.kind new body) after_is c.in_ok-body.ensures) in (
+    let is : IsBody t (map line_view c.args.asked.lines.now) c.args.firsts.now (listed_after before s) c.args.asked.form s.kind (new_in before s) body =
+    subst (λ (cs : List RuleClash). IsBody t (map line_view c.args.asked.lines.now) c.args.firsts.now (listed_after before s) c.args.asked.form s.kind cs body) new_is
+    (subst (λ (ls : List (ℕ × ℕ)). IsBody t (map line_view c.args.asked.lines.now) c.args.firsts.now ls c.args.asked.form s.kind new body) after_is c.in_ok-body.ensures) in (
       body,
       is,
-      text_of c.args.shown.form c.args.shown.taken s.kind c.len-count.result (length (new_in before s)) (nat_lt 0 c.len-more.result) (nat_lt 0 (length before)) c.is_whole-whole.result (is_whole s.found)
+      text_of c.args.asked.form c.args.taken s.kind c.len-count.result (length (new_in before s)) (nat_lt 0 c.len-more.result) (nat_lt 0 (length before)) c.is_whole-whole.result (is_whole s.found)
           (string_bytes c.in_ok-text.text) (string_bytes c.push_str.new.self) body c.in_ok-text.ensures (c.in_ok-push_str.ensures.bytes ∙ ap (λ (rest : List ℕ). string_bytes c.in_ok-text.text ++ rest) c.as_str.ensures.value)
           (counted ∙ ap length new_is) (ap (nat_lt 0) c.len-more.ensures) c.is_whole-whole.ensures,
     )

@@ -1,6 +1,7 @@
 //! Files of pairs of rules.
 use brl_accepted::{
-    Excusal, ExcuseFaultKind, Nameable, read_back_law, read_excusal, write_accepted,
+    Excusal, ExcuseFaultKind, Nameable, excused_count, is_excused, read_back_law, read_excusal,
+    write_accepted,
 };
 use brl_pairs::RulePairs;
 use brl_table::Table;
@@ -22,10 +23,10 @@ fn excuses_one(alloc: Global, known: Nameable<'_>, text: &str) -> bool {
     let Ok(excusal) = read(alloc, known, text) else {
         return false;
     };
-    match excusal.excused_of(alloc, &[(1, 2), (2, 0), (0, 1)]) {
-        Ok(pairs) => pairs.as_slice() == [(2, 0)].as_slice() && excusal.stale.is_empty(),
-        Err(_) => false,
-    }
+    let listed = &[(1, 2), (2, 0), (0, 1)];
+    excused_count(&excusal.excused, listed) == 1
+        && is_excused(&excusal.excused, (2, 0))
+        && excusal.stale.is_empty()
 }
 
 /// Whether just this line of a text is stale, for this, and the text without it is this.

@@ -1,11 +1,10 @@
 //! The program.
 use brl_accepted::Counts;
-use brl_clashes::{
-    Extent, Kind, ListForm, ListOutcome, Section, Taken, are_whole, list_sections, outcome_of,
-    pairs_of_sections, sections_text, without_accepted,
-};
+use brl_answers::RunFault;
+use brl_clashes::{ListForm, ListOutcome, ListRequest, Taken, Tally, show_list, verdict_text};
 use brl_failure::Failure;
 use brl_lines::MapSource;
+use brl_pairs::{Excused, RulePairs};
 use brl_progress::NoProgress;
 use brl_table::Table;
 use brl_testing::{Listener, one_file, table_of};
@@ -13,7 +12,7 @@ use brl_tool::{
     Counting, CreateFault, Files, Form, Lacking, SinkFault, StreamFault, run,
     translate_defined_lines, translate_lines,
 };
-use brl_without::{Alphabet, LeftOut};
+use brl_without::LeftOut;
 use std::alloc::{AllocError, Global};
 use std::test::Fail;
 
@@ -101,41 +100,55 @@ fn runs(alloc: Global) -> Result<bool, Fail> {
     is_run(alloc, &mut files)
 }
 
-/// Whether these are one section, of small letters, and its list isn't empty.
-fn is_of_letters(sections: &[Section]) -> bool {
-    sections.len() == 1
-        && matches!(&sections[0].kind, Kind::Letter)
-        && are_whole(sections)
-        && matches!(outcome_of(sections), ListOutcome::Clashing)
+/// Whether this is kept of one section, of small letters, that has one pair of rules, which may be
+/// left.
+fn is_of_letters(tally: &Tally, left: usize) -> bool {
+    let outcome = if left == 0 {
+        matches!(tally.outcome(), ListOutcome::Unambiguous)
+    } else {
+        matches!(tally.outcome(), ListOutcome::Clashing)
+    };
+    outcome && tally.whole && tally.found.len() == 1 && tally.left.len() == left
 }
 
-/// The list of a table's clashes, as an author reads it, where its first pair is accepted or none
-/// is.
-fn clashes_text(alloc: Global, table: &Table, accepts: bool) -> Result<String, AllocError> {
-    let left_out = LeftOut::none(alloc);
-    let sections: Vec<Section> = list_sections(alloc, table, 1000, &left_out, &mut NoProgress)?;
-    if !is_of_letters(sections.as_slice()) {
-        return Ok(String::new(alloc));
+/// What is excused: the pairs of rules of the small letters of a table, or nothing.
+fn excused_by(alloc: Global, accepts: bool) -> Result<Excused, AllocError> {
+    let mut excused = Excused::nothing(alloc);
+    if accepts {
+        excused.accepted = RulePairs::new(alloc, Vec::from_slice(alloc, &[(0, 2), (1, 2)])?)?;
     }
-    let mut pairs = pairs_of_sections(alloc, sections.as_slice())?;
-    pairs.truncate(usize::from(accepts));
-    let alphabet = Alphabet::Without(Vec::new(alloc));
-    let shown = Extent {
-        alphabet: &alphabet,
+    Ok(excused)
+}
+
+/// The list of a table's clashes, as an author reads it, where its pairs are accepted or none are.
+fn clashes_text(alloc: Global, table: &Table, accepts: bool) -> Result<String, RunFault> {
+    let left_out = LeftOut::none(alloc);
+    let excused = excused_by(alloc, accepts)?;
+    let asked = ListRequest {
+        table,
+        lines: &[],
         left_out: &left_out,
+        excused: &excused,
+        limit: 1000,
         form: ListForm::Pairs {
             first: 0,
             key: None,
         },
-        accepted: accepts.then_some(Taken {
-            listed: 1,
-            counts: Counts { pairs: 1, sets: 0 },
-            stale: 0,
-            pruned: false,
-        }),
     };
-    let left = without_accepted(alloc, pairs.as_slice(), sections)?;
-    sections_text(alloc, table, &[], shown, left)
+    let mut out = Counting::new(Vec::new(alloc));
+    let tally = show_list(alloc, asked, &mut out, &mut NoProgress)?;
+    if !is_of_letters(&tally, usize::from(!accepts)) {
+        return Ok(String::new(alloc));
+    }
+    let taken = accepts.then_some(Taken {
+        listed: 1,
+        counts: Counts { pairs: 1, sets: 0 },
+        stale: 0,
+        pruned: false,
+    });
+    let mut text = String::from_utf8_lossy(alloc, out.device.as_slice())?;
+    text.push_str(verdict_text(alloc, &tally, taken)?.as_str())?;
+    Ok(text)
 }
 
 fn lists_clashes(alloc: Global) -> Result<bool, Fail> {

@@ -1,7 +1,7 @@
 //! Runs in which memory may run out, each made again in the same process.
 use crate::tests::program::runs::{Outcome, is_answered};
 use brl_lines::MapSource;
-use brl_testing::{Listener, check_rows, cut, files_of, lines_of, mark, words_of};
+use brl_testing::{Listener, check_rows, cut, field_of, files_of, lines_of, mark, words_of};
 use brl_tool::{Counting, run};
 use std::alloc::Global;
 use std::rt::Files;
@@ -64,15 +64,20 @@ fn marked_outcome<R: Files>(
     })
 }
 
-/// Whether a run says that memory ran out in it: with nothing written where it did so while the
-/// words were read, which may then be a use fault.
-fn is_out_of_memory(outcome: &Outcome) -> bool {
-    outcome.status == 3 || outcome.status == 2 && outcome.out.is_empty()
+/// Whether a run says that memory ran out in it: then it has written some first lines of its answer
+/// at most. It has written nothing where it did so while the words were read, which may then be a
+/// use fault.
+fn is_out_of_memory(alloc: Global, outcome: &Outcome, fields: &str) -> Result<bool, Fail> {
+    let out = field_of(alloc, std::str::from_utf8(outcome.out.as_slice())?)?;
+    Ok(
+        outcome.status == 3 && fields.starts_with(out.as_str())
+            || outcome.status == 2 && out.is_empty(),
+    )
 }
 
 /// Whether a run has its answer, or memory ran out in it.
 fn may_be(alloc: Global, outcome: &Outcome, fields: &str) -> Result<bool, Fail> {
-    Ok(is_out_of_memory(outcome) || outcome.fields(alloc)?.as_str() == fields)
+    Ok(is_out_of_memory(alloc, outcome, fields)? || outcome.fields(alloc)?.as_str() == fields)
 }
 
 /// Whether a run over files has its answer, or memory runs out in it; and whether it has its answer

@@ -9,7 +9,7 @@ use std::test::Fail;
 use std::time::{Clock, Duration};
 
 /// The files and the words of a run; how often it reports its work; how often it reports that work
-/// has ended; and the last report.
+/// has ended; and the last report, with the part of the work that began last.
 const TOLD: &str = "\
 t.ctb: letter a 1; letter b 12|brl,search,t.ctb,o|1|1|searching: 1 states, 0 pairs
 t.ctb: letter a 1; letter b 1|brl,search,t.ctb,o|1|1|searching: 1 states, 0 pairs
@@ -19,14 +19,16 @@ t.ctb: letter a 1 & c: BRLCERT 1; state 1 0 0 -; state 8 0 0 61; state 8 0 1 -; 
 t.ctb: letter a 1 & c: BRLCERT 2; state 01 0; end 1 0|brl,check,t.ctb,c|0|1|
 t.ctb: letter a 1|brl,clash,t.ctb,a,a|0|1|
 t.ctb: letter a 1|brl,trace,t.ctb,a|0|1|
+t.ctb: letter a 1; digit 1 1; punctuation , 2|brl,clashes,t.ctb|3|4|with digits searching: 1 states, 0 pairs
 ";
 
 /// The numbers and the last work that a run's standard error heard, as in a row.
 fn heard_by(alloc: Global, heard: &Listener) -> Result<String, Fail> {
-    let (times, ends) = (heard.times, heard.ends);
+    let (times, ends, part) = (heard.times, heard.ends, heard.part);
     match heard.last {
-        Some(work) => Ok(format!(in alloc; "{times}|{ends}|{work}")?),
-        None => Ok(format!(in alloc; "{times}|{ends}|")?),
+        Some(work) if part.is_empty() => Ok(format!(in alloc; "{times}|{ends}|{work}")?),
+        Some(work) => Ok(format!(in alloc; "{times}|{ends}|{part} {work}")?),
+        None => Ok(format!(in alloc; "{times}|{ends}|{part}")?),
     }
 }
 
