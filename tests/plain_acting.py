@@ -192,7 +192,7 @@ class Known:
         return frozenset({*chars} | self.above({*chars}))
 
     def either(self, chars: str) -> Need:
-        """Those that stand for one of these, or for one of its small letters."""
+        """The characters that stand for one of these, or for one of its small letters."""
         return self.up({*chars} | self.above({*chars}, False))
 
     def is_near(self, chars: str) -> list[bool]:

@@ -1,14 +1,13 @@
 #!/usr/bin/env python3
-"""Compares docs/proof/ with the sources: which calls are public, and which clauses each has.
+"""Compares with the sources what is written by hand in docs/proof/, and what documents name of crates.
 
   tests/promises.py
 
-PROMISES.md has a row for each public function with a clause, and names its clauses in their order; a
-dash is a clause without a name. Its rows of types name a ghost fact of each, and those of private
-functions one of their clauses. DEFINITIONS.md names each file of specs/ once, but for those that
-begin with "Internal." and the lists of modules. In all documents, what is written `crate::name` or
-`crate::Type::name` is exported by that crate. The example at the head of each of six crates is the
-body of a function that a test of `calls` in brl_tests calls. A failed comparison ends with status 1.
+In PROMISES.md the rows of types name a ghost fact of each, and those of private functions one of their clauses; the rows
+of public functions are made (tools/promises-list). DEFINITIONS.md names each file of specs/ once, but for those that begin
+with "Internal." and the lists of modules. In all documents, what is written `crate::name` or `crate::Type::name` is
+exported by that crate. The example at the head of each of six crates is the body of a function that a test of `calls` in
+brl_tests calls. A failed comparison ends with status 1.
 """
 
 import re
@@ -17,110 +16,22 @@ from collections import Counter
 from collections.abc import Iterator
 from pathlib import Path
 from textwrap import dedent
-from typing import NamedTuple
 
 TOP = Path(__file__).resolve().parent.parent
-CRATES = TOP / "crates"
+sys.dont_write_bytecode = True
+sys.path.insert(0, str(TOP / "tools"))
+from contracts import CLAUSE, CRATES, UNNAMED, Crate
+
 PROMISES, DEFINITIONS = (TOP / "docs" / "proof" / it for it in ("PROMISES.md", "DEFINITIONS.md"))
 
 # The crates that a caller of the library names first, and the functions that their examples are the bodies of.
 OUTWARD = ("brl_table", "brl_forward", "brl_cert", "brl_accept", "brl_search", "brl_stream")
 EXAMPLES = CRATES / "brl_tests" / "src" / "tests" / "calls" / "examples.rt"
 
-# The crates whose calls are promised to nobody: the program's `main`, and tests.
-OTHERS = re.compile(r"brl|brl_test.*")
-
-# A dash, of a clause without a name.
-UNNAMED = "–"
-
-# The head of an impl or a trait, the end of one, and the head of a function; code is formatted.
-PARTS = re.compile(
-    r"^(?:pub )?(?P<kind>impl|trait)(?:<.*?>)? (?P<what>[^{]+?) (?:where [^{]*)?\{"
-    r"|^(?P<end>\}|mod \w+ \{)"
-    r"|^(?P<indent> *)(?P<visible>pub )?(?:const )?fn (?P<name>\w+)(?P<head>.*?)(?:;$|^(?P=indent)\{|\{$)",
-    re.MULTILINE | re.DOTALL,
-)
-CLAUSE = re.compile(r"^ *ensures (?:(\w+) )?\{", re.MULTILINE)
-
-
-class Call(NamedTuple):
-    """A function, by its crate and the path of its name there, and the names of its clauses."""
-
-    crate: str
-    path: str
-    clauses: tuple[str, ...]
-
-    def __str__(self) -> str:
-        return f"{self.crate}::{self.path}"
-
-
-def bare(type_text: str) -> str:
-    """The name of a type, without its path and its parameters."""
-    return re.sub(r"<.*", "", type_text, flags=re.DOTALL).split("::")[-1].lstrip("&").strip()
-
-
-class Crate:
-    """The sources of a crate, and what it exports."""
-
-    def __init__(self, name: str) -> None:
-        self.name = name
-        self.texts = [it.read_text() for it in sorted((CRATES / name / "src").glob("**/*.rt"))]
-        root = CRATES / name / "src" / "lib.rt"
-        text = root.read_text() if root.is_file() else ""
-        uses = re.findall(r"^pub use [\w:]+::(?:\{([^}]*)\}|(\w+));", text, re.MULTILINE)
-        own = re.findall(r"^pub (?:struct|enum|trait|const|fn) (\w+)", text, re.MULTILINE)
-        self.exported = {it.strip() for many, one in uses for it in (many or one).split(",") if it.strip()} | set(own)
-        self.others = set(re.findall(r"^pub use (brl_\w+)::", text, re.MULTILINE))
-
-    def parts(self) -> Iterator[tuple[str, str, re.Match[str]]]:
-        """Each function with the trait and the type of its impl, none of which a free one has."""
-        for text in self.texts:
-            trait = kind = ""
-            for it in PARTS.finditer(text):
-                if it["kind"] == "trait":
-                    trait, kind = bare(it["what"].split(":")[0]), ""
-                elif it["kind"]:
-                    *traits, owner = it["what"].split(" for ")
-                    trait, kind = (bare(traits[0]) if traits else ""), bare(owner)
-                elif it["end"]:
-                    trait = kind = ""
-                elif it["indent"]:
-                    yield trait, kind, it
-                else:
-                    yield "", "", it
-
-    def calls(self) -> Iterator[Call]:
-        """The public functions. A trait's own and those of its impls are as public as the trait."""
-        for trait, kind, it in self.parts():
-            name, clauses = it["name"], tuple(CLAUSE.findall(it["head"]))
-            owner = trait if not kind else kind
-            if trait and kind:
-                if clauses:
-                    yield Call(self.name, f"<{kind} as {trait}>::{name}", clauses)
-            elif owner:
-                if owner in self.exported and (trait or it["visible"]):
-                    yield Call(self.name, f"{owner}::{name}", clauses)
-            elif it["visible"] and name in self.exported:
-                yield Call(self.name, name, clauses)
-
-
 
 def names_in(cell: str) -> tuple[str, ...]:
     """The names of clauses in a cell; an empty one where a clause has none."""
     return tuple("" if it == UNNAMED else it.strip("`") for it in cell.split(", "))
-
-
-def wrong_promises(crates: dict[str, Crate], page: str) -> Iterator[str]:
-    """How the rows of functions differ from the public functions."""
-    public = {str(it): it for name, crate in crates.items() if not OTHERS.fullmatch(name) for it in crate.calls() if it.clauses}
-    rows = re.findall(r"^\| `(\w+::(?:<|\w+::|[a-z])[^`]*)` \| ([^|]*) \|", page, re.MULTILINE)
-    yield from (f"{it} has {count} rows" for it, count in Counter(it for it, _ in rows).items() if count > 1)
-    for it, clauses in rows:
-        if it not in public:
-            yield f"{it} is no public function with a clause"
-        elif names_in(clauses) != public[it].clauses:
-            yield f"{it} has the clauses {', '.join(name or UNNAMED for name in public[it].clauses)}"
-    yield from (f"{it} has no row" for it in public if it not in dict(rows))
 
 
 def wrong_types(crates: dict[str, Crate], page: str) -> Iterator[str]:
@@ -183,13 +94,12 @@ def wrong_examples() -> Iterator[str]:
 def main() -> int:
     crates = {it.name: Crate(it.name) for it in sorted(CRATES.iterdir()) if it.is_dir()}
     page = PROMISES.read_text()
-    wrong = [*wrong_promises(crates, page), *wrong_types(crates, page), *wrong_parts(crates, page)]
-    wrong += [*wrong_definitions(), *wrong_names(crates)]
+    wrong = [*wrong_types(crates, page), *wrong_parts(crates, page), *wrong_definitions(), *wrong_names(crates)]
     examples = list(wrong_examples())
     if wrong:
         print("FAILED: docs/proof/", *wrong, sep="\n")
     else:
-        print("ok: docs/proof/ has the public functions with their clauses, and the files of definitions")
+        print("ok: docs/proof/ has what types and private functions keep, and the files of definitions")
     if examples:
         print("FAILED: examples", *examples, sep="\n")
     else:

@@ -7,11 +7,13 @@ sources, where no document is named.
 - A line has at most 100 columns, outside of tables and blocks of code; a cell of a table at most 120 characters.
 - A link leads to a file, and to a heading of it; a path of the repository, or the name of a document, is there.
 - What is written `crate::item` is an item that the crate exports, and `crate::Type::item` one of such a type.
-- Each entry of DECISIONS.md has a name of its own, and a name that is cited after `DECISIONS, ` is one of these.
-- The words that the house doesn't use aren't used, outside of code.
+- Each entry of DECISIONS.md has a name of its own and at most 80 words, and a name that is cited after `DECISIONS, ` is
+  one of these.
+- The words that the house doesn't use aren't used, outside of code, nor 'but for' where it isn't a term.
 - README.md alone names the kit, and it is the one on the path.
 
-Comments are held to the columns, the names of decisions and the words; scripts to these names.
+Comments are held to the columns, the names of decisions and the words, and don't begin with 'The same' or 'Those';
+scripts to these names.
 
 A line is printed for each fault, with the document and the line, and 'ok: ..' for each check that finds none. The exit
 status is 1 where there is a fault.
@@ -23,7 +25,7 @@ import shutil
 import subprocess
 import sys
 from bisect import bisect
-from collections.abc import Callable, Iterator
+from collections.abc import Callable, Iterable, Iterator
 from dataclasses import dataclass
 from pathlib import Path
 
@@ -70,6 +72,12 @@ ALLOWED = [
     (r"(?:runs?|states?|stays?|stayed|still|as) behind", "the run of a pair that has given fewer cells"),
     (r"steps?(?: that)? (?:are|is) alike|alike steps?", "steps that are the same, or of rules that may be exchanged"),
 ]
+
+# Where a document has "but for" all the same: terms of the theorems on closed sets, and a text of `brl explain`.
+BUT_FOR = "(?:closed|the same|unambiguous|step by step|flags),? but for"
+
+# The most words of an entry of DECISIONS.md, without its name.
+MOST_OF_DECISION = 80
 
 # How a comment begins, by the ending of its file.
 MARKS = {".rt": r"\s*//[/!]?", ".antt": r"\s*--"}
@@ -226,12 +234,17 @@ def blanked(text: str, pattern: str) -> str:
     return re.sub(pattern, lambda it: re.sub(r"\S", " ", it[0]), text)
 
 
-def other_words(it: Document) -> Faults:
+def prose_alone(it: Document, allowed: Iterable[str]) -> tuple[str, list[int]]:
+    """The text of a document, where code, links and what is allowed are blank, and where its lines start."""
     kept = dict(it.prose())
     text = "\n".join(kept.get(number, "") for number in range(len(it.lines)))
-    for pattern in (*NO_PROSE, *(rf"\b{it}\b".replace(" ", r"\s+") for it, _ in ALLOWED)):
+    for pattern in (*NO_PROSE, *(rf"\b{words}\b".replace(" ", r"\s+") for words in allowed)):
         text = blanked(text, pattern)
-    starts = [0, *(it.end() for it in re.finditer("\n", text))]
+    return text, [0, *(found.end() for found in re.finditer("\n", text))]
+
+
+def other_words(it: Document) -> Faults:
+    text, starts = prose_alone(it, [words for words, _ in ALLOWED])
     for word, instead in WORDS.items():
         pattern = rf"(?<![\w-])(?:{word})(?![\w-])".replace(" ", r"\s+")
         for found in re.finditer(pattern, text, re.IGNORECASE):
@@ -239,6 +252,25 @@ def other_words(it: Document) -> Faults:
             # a field of a certificate has a name in capitals
             if not used.isupper():
                 yield bisect(starts, found.start()) - 1, f"'{used}', for which the house has: {instead}"
+
+
+def other_exceptions(it: Document) -> Faults:
+    text, starts = prose_alone(it, [BUT_FOR])
+    for found in re.finditer(r"\bbut\s+for\b", text):
+        yield bisect(starts, found.start()) - 1, "'but for', for which the house has: except, without"
+
+
+def long_decisions(it: Document) -> Faults:
+    if it.path.name != "DECISIONS.md":
+        return
+    begun, count = 0, 0
+    for number, line in (*it.prose(), (len(it.lines), "- ")):
+        if line.startswith(("- ", "#")):
+            if count > MOST_OF_DECISION:
+                yield begun, f"an entry of {count} words"
+            begun, count = number, 0
+        else:
+            count += len(line.split())
 
 
 def other_kits(it: Document) -> Faults:
@@ -259,7 +291,9 @@ CHECKS: dict[str, Callable[[Document], Faults]] = {
     "each path and each document that is named is there": dead_paths,
     "each item that is named is exported": unknown_items,
     "each decision that is cited is there, and each has a name": unknown_decisions,
+    f"no decision has more than {MOST_OF_DECISION} words": long_decisions,
     "no word is used that the house doesn't use": other_words,
+    "'but for' is in terms of theorems alone": other_exceptions,
     "README.md alone names the kit, and it is that of `rt version`": other_kits,
 }
 
@@ -272,6 +306,13 @@ def dangling(it: Document) -> Faults:
             yield number, "a comment says itself what it means, and doesn't begin with 'The same' or 'Those'"
 
 
+def dangling_in_scripts(it: Document) -> Faults:
+    """Comments of a script that only mean something after another one."""
+    for number, (before, line) in enumerate(zip(("", *it.lines), it.lines)):
+        if not before.lstrip().startswith("#") and re.match(r'\s*(?:#|""")\s*(?:the same|those)\b', line, re.IGNORECASE):
+            yield number, "a comment says itself what it means, and doesn't begin with 'The same' or 'Those'"
+
+
 OF_COMMENTS: dict[str, Callable[[Document], Faults]] = {
     f"no comment has more than {MOST_COLUMNS} columns": long_lines,
     "each decision that a comment cites is there": unknown_decisions,
@@ -279,7 +320,10 @@ OF_COMMENTS: dict[str, Callable[[Document], Faults]] = {
     "no comment on code or definitions rests on the one before": dangling,
 }
 
-OF_SCRIPTS: dict[str, Callable[[Document], Faults]] = {"each decision that a script cites is there": unknown_decisions}
+OF_SCRIPTS: dict[str, Callable[[Document], Faults]] = {
+    "each decision that a script cites is there": unknown_decisions,
+    "no comment of a script rests on the one before": dangling_in_scripts,
+}
 
 
 def documents() -> list[Path]:

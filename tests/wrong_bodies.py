@@ -181,10 +181,10 @@ def refusals(said: str, folder: str, is_alone: bool) -> dict[str, dict[str, bool
 class Answer:
     """What a check said of the functions that it was asked for."""
 
-    # Those that are refused, with their goals and whether these were shown to be false, and those that are proved.
+    # The functions that are refused, with their goals and whether these were shown to be false, and those that are proved.
     refused: dict[str, dict[str, bool]]
     proved: set[str]
-    # Those of code that can't be read, by the names that they have in their files, with why.
+    # The functions of code that can't be read, by the names that they have in their files, with why.
     unread: dict[str, str]
     # What is wrong in proof files that aren't those of a copy.
     wrong: list[str]

@@ -48,7 +48,7 @@ pub fn but_for_line(alloc: Global, counts: Counts) -> Result<String, AllocError>
     format!(in alloc; "but for: {pairs}{accepted}, {sets}{exchanged}\n")
 }
 
-/// How many pairs of rules these are, whatever the order of the two.
+/// How many distinct pairs of rules these are, whatever the order of the two.
 pub fn pair_count(alloc: Global, pairs: &[(u32, u32)]) -> Result<usize, AllocError>
     ensures { IfOk result (λ count. count ≡ count_of_pairs pairs.now) }
 {

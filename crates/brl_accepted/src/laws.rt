@@ -9,8 +9,8 @@ ghost use Rattle.brl_accepted.specs.Writing.{accepted_text};
 use crate::reading::Nameable;
 use brl_rules::{Rule, Table};
 
-/// Of the file that is written for some listed pairs of rules of a table no line is stale, and it
-/// excuses just these pairs, where these are the table's sets of characters.
+/// What is written for listed pairs of a table's rules has no stale line, and excuses each of
+/// these, where these are the table's sets of characters.
 pub fn read_back_law(known: Nameable<'_>)
     ensures { let names = names_of known.entry in (listed : List (ℕ × ℕ)) (whole : Bool) → All (AreOfTable names.table) listed
         → IsReadBack names listed whole (accepted_text names.table names.words names.sets listed) }

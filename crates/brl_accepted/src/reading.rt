@@ -63,8 +63,9 @@ pub struct Excusal {
     pub kept: String,
 }
 
-/// What the file at a path with this text excuses. A line is blank, a comment that begins with `#`,
-/// `ONE / OTHER`, just as `write_accepted` writes it or with its rules in the other order, or
+/// What the file at a path with this text excuses: the pairs that its good lines name, and the
+/// sets; its stale lines; and the text without them. A line is blank, a comment that begins with
+/// `#`, `ONE / OTHER`, just as `write_accepted` writes it or with its rules in the other order, or
 /// `exchange CHARS` with two characters or more of a set: it names the pairs of their own
 /// definitions. Where several rules say the same, a line names each of them.
 ///

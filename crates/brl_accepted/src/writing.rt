@@ -17,9 +17,9 @@ use brl_pairs::RulePairs;
 use brl_rules::Table;
 use std::alloc::{AllocError, Global};
 
-/// The text of a file that names these listed pairs of rules of a table. First comes a line for
-/// each set of characters that has a listed pair: one of the own definitions of two of its
-/// characters. Then comes a line for each other pair, by what the rules say.
+/// The text of a file that names listed pairs of a table's rules: a line for each set of characters
+/// that has one, then one for each other pair. A set has the pairs of the own definitions of two of
+/// its characters. A line of a pair has what the rules say.
 ///
 /// Every line ends with LF. `AllocError` if memory runs out.
 pub fn write_accepted(

@@ -13,10 +13,9 @@ ghost use Rattle.brl_acting.specs.Readings.{known_of};
 ghost use Rattle.brl_acting.specs.Sets.{is_in};
 ghost use Rattle.brl_acting.specs.Words.{LineParts, TableLineView, parts_of};
 
-/// Without rules that can't act over an alphabet, and without the definitions of characters outside
-/// it, a table makes the same of each text over the alphabet: the same cells, or the same fault. So
-/// texts over it clash by one table exactly where they do by the other. What is left of a ranking
-/// of rules is the ranking of those that are left.
+/// Without rules that can't act over an alphabet, and definitions of characters outside it, texts
+/// over it have the same cells, faults and clashes. What is left of a ranking of rules is the
+/// ranking of those that are left.
 pub fn idle_laws()
     ensures rules { (alphabet : List ℕ) (t : TableView) (keeps : Rule → Bool) →
         DropsIdleRules alphabet t keeps → AreAlikeOver alphabet t (with_rules keeps t) }

@@ -25,7 +25,8 @@ pub struct Letters {
 }
 
 impl Letters {
-    /// The letters that lines give. `AllocError` if memory runs out.
+    /// The letters that lines give, and those before which `letsign` may stand. `AllocError` if
+    /// memory runs out.
     pub fn of_lines(alloc: Global, lines: &[Line<'_>]) -> Result<Letters, AllocError>
         ensures { IfOk result (λ letters. letters_view letters ≡ letters_of (map line_view lines.now)) }
     {
@@ -40,7 +41,7 @@ impl Letters {
         self.letters.has(character)
     }
 
-    /// Whether it is one before which `letsign` may stand.
+    /// Whether a character is one before which `letsign` may stand.
     pub fn takes_sign(&self, character: char) -> bool
         ensures { result ≡ (letters_view self.now).takes_sign character }
     {

@@ -315,12 +315,13 @@ fn push_made(
     Ok(())
 }
 
-/// The lines of a whole table that can act on texts over an alphabet of characters that its cut
-/// defines, where the cut leaves these out: first those of the gathered files in the order in which
-/// liblouis reads them, then include lines whose file isn't there, and then all that are left out
-/// of a file that the cut has made. The blank always belongs to the alphabet. Where there are none,
-/// the whole table writes the cells of its cut for each text over the alphabet: this is a claim of
-/// liblouis that isn't proved. `AllocError` if memory runs out.
+/// The lines of a whole table that can act on texts over an alphabet, among those that its cut
+/// leaves out and the include lines whose file isn't there. First come those of the gathered files
+/// in the order in which liblouis reads them, then include lines whose file isn't there, and then
+/// all that are left out of a file that the cut has made. The alphabet has characters that the cut
+/// defines, and always the blank. Where there are none, the whole table writes the cells of its cut
+/// for each text over the alphabet: this is a claim of liblouis that isn't proved. `AllocError` if
+/// memory runs out.
 pub fn acting_of_table<'a>(
     alloc: Global,
     whole: &'a Loaded,

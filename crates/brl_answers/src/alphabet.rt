@@ -26,8 +26,8 @@ pub fn spell_one_by_one(alloc: Global, characters: &[char]) -> Result<String, Al
     Ok(text)
 }
 
-/// A line of an answer, and where texts aren't made of all characters of a table another line: it
-/// spells those that are left out, or the spans of those that texts may have.
+/// A line of an answer, and where texts aren't made of all characters of a table one that spells
+/// those left out, or the spans of those they may have.
 pub fn with_alphabet_line(
     alloc: Global,
     line: String,

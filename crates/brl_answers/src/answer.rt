@@ -92,9 +92,10 @@ fn write_answer<F: Files, O: Output>(
     Ok(status)
 }
 
-/// Delivers what a command answers: its files and its text, or the line of its fault on standard
-/// error; that may be that what it showed before couldn't be written. With `quiet` there is no line
-/// where nobody reads the output any more, as after `| head`. Answers the status.
+/// Writes the files of an answer and then its text, whole, or of a fault nothing but its line on
+/// standard error; no other file changes. The fault may be that what was shown before couldn't be
+/// written. With `quiet` there is no line where nobody reads the output any more, as after
+/// `| head`. Answers the status.
 pub fn deliver<F: Files, O: Output, E: Write>(
     alloc: Global,
     outcome: Result<Answer, RunFault>,

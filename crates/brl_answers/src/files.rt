@@ -41,7 +41,7 @@ pub trait Files: Source {
     ghost same_file: { MayBeSame };
 
     /// Sets the folders in which the files of tables are looked for that aren't at their usual
-    /// paths.
+    /// paths; else what the files give stays.
     fn look_in(&mut self, folders: Vec<String>)
         ensures looked { self.new ≡ looked folders self.old }
         ensures looks { Self.gives self.new ≡ looking (map string_bytes folders.items) (Self.gives self.old) }
@@ -53,14 +53,14 @@ pub trait Files: Source {
         ensures same { Self.gives self.new ≡ Self.gives self.old }
         ensures count { Self.faults self.new ≡ Self.faults self.old };
 
-    /// Whether two paths name one file. Equal paths do.
+    /// Whether two paths name one file, as equal paths always do.
     fn is_same_file(&self, alloc: Global, one: &str, other: &str) -> Result<bool, AllocError>
         ensures may { IfOk result (λ is. IsTrue is → IsTrue (same_file one.now other.now)) }
         ensures equal { one.now ≡ other.now → IfOk result (λ is. IsTrue is) };
 
-    /// Writes a file with these bytes at `path`, in place of the one that was there. `Failed` where
-    /// they couldn't all be written. What is at `path` after a failure isn't known. No other file
-    /// changes.
+    /// Writes a file with these bytes at `path`, in place of the one that was there; no other file
+    /// changes. `Failed` where they couldn't all be written. What is at `path` after a failure
+    /// isn't known.
     fn write(&mut self, alloc: Global, path: &str, bytes: &[u8]) -> Result<(), Failure<Failed>>
         ensures written { OnOk result (GivesAlso (Self.gives self.new) path.now bytes.now) }
         ensures others { OthersStay (Self.gives self.old) (Self.gives self.new) path.now }
@@ -70,9 +70,10 @@ pub trait Files: Source {
     fn is_there(&self, path: &str) -> bool
         ensures { MatchBool result (MayBeThere (Self.gives self.now) path.now) (MayBeAbsent (Self.gives self.now) path.now) };
 
-    /// Makes a file with these bytes at `path`, and the folders in which it is where they aren't
-    /// there. `AlreadyThere` where something is at `path`; no file changes then. `Failed` where it
-    /// couldn't be made, and `Memory`: what is at `path` then isn't known. No other file changes.
+    /// Makes a file with these bytes at `path`, and its folders; where something is at `path`
+    /// already, no file changes. `AlreadyThere` where something is at `path`. `Failed` where it
+    /// couldn't be made, and `Memory`: what is at `path` then isn't known. No other file ever
+    /// changes.
     fn create(&mut self, alloc: Global, path: &str, bytes: &[u8]) -> Result<(), NewFileFault>
         ensures made { OnOk result (GivesAlso (Self.gives self.new) path.now bytes.now) }
         ensures absent { OnOk result (MayBeAbsent (Self.gives self.old) path.now) }
@@ -103,7 +104,7 @@ impl Files for MapSource {
         Ok(one == other)
     }
 
-    /// On an error all files stay as they were.
+    /// Puts a file with these bytes at the path; `Memory` alone fails, and changes nothing.
     fn write(&mut self, alloc: Global, path: &str, bytes: &[u8]) -> Result<(), Failure<Failed>>
         ensures written { OnOk result (bytes_in self.new path.now ≡ Some bytes.now) }
         ensures others { OthersAre self.old self.new path.now }
@@ -114,13 +115,15 @@ impl Files for MapSource {
         Ok(put(alloc, self, path, bytes)?)
     }
 
+    /// Whether a file is at the path.
     fn is_there(&self, path: &str) -> bool
         ensures { result ≡ is_some (bytes_in self.now path.now) }
     {
         self.files.get(path).is_some()
     }
 
-    /// On an error all files stay as they were.
+    /// Makes a file with these bytes at the path; `AlreadyThere` exactly where one is, and on an
+    /// error all files stay as they were.
     fn create(&mut self, alloc: Global, path: &str, bytes: &[u8]) -> Result<(), NewFileFault>
         ensures made { OnOk result (bytes_in self.new path.now ≡ Some bytes.now) }
         ensures there { IsTrue (is_some (bytes_in self.old path.now)) → IsErrOf result (Fault CreateFault.AlreadyThere) }

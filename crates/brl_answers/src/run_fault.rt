@@ -138,6 +138,7 @@ pub trait EndsRun {
     // the fault of the program
     ghost run_fault: { Self → RunFault };
 
+    /// The fault of the program that this fault is.
     fn into_run_fault(self) -> RunFault
         ensures { result ≡ run_fault self };
 }

@@ -7,8 +7,8 @@ use brl_failure::Failure;
 use brl_lines::{characters, chars_of};
 use std::alloc::Global;
 
-/// The text of a word: with `escapes` the characters that it spells as an operand of a table, else
-/// its own. `BadText` where it has a bad escape.
+/// The text of a word: its own characters, or with `escapes` those that it spells as an operand of
+/// a table; `BadText` where it spells none.
 pub fn text_of_word(alloc: Global, word: &str, escapes: bool) -> Result<Vec<char>, RunFault>
     ensures text { IfOk result (λ text. text_of escapes word.now ≡ Ok text.items) }
     ensures bad { IfErr result (IsBadText escapes word.now) }

@@ -66,7 +66,7 @@ impl Cells {
         self.items.as_slice()
     }
 
-    /// Appends a cell. After `AllocError` the list is unchanged.
+    /// Adds a cell at the end; after `AllocError` the list is unchanged.
     pub fn push(&mut self, cell: Cell) -> Result<(), AllocError>
         ensures ok { OnOk result (self.new ≡ self.old ++ cell ∷ []) }
         ensures err { OnErr result (self.new ≡ self.old) }

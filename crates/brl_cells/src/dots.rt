@@ -45,9 +45,9 @@ fn read_cell(marks: &[u8]) -> Result<Cell, DotsFault>
     Ok(cell)
 }
 
-/// The cells that a dots operand spells. Cells are joined by `-`. Each is one or more of the digits
-/// 1 to 8 in any order, none twice, or `0` alone, the blank cell. There may be at most `most`
-/// cells, a limit from 1 to 1,024.
+/// The cells that a dots operand spells, 1 to `most` of them, or its first fault. Cells are joined
+/// by `-`. Each is one or more of the digits 1 to 8 in any order, none twice, or `0` alone, the
+/// blank cell. `most` is from 1 to 1,024.
 ///
 /// The first fault decides, cell by cell and mark by mark: `EmptyCell`, `BadDot`, `RepeatedDot`.
 /// Where there is none of these, more than `most` cells are `TooManyCells`. Only more than eight
@@ -87,8 +87,8 @@ fn push_cell(text: &mut String, cell: Cell) -> Result<(), AllocError>
     Ok(())
 }
 
-/// The text that spells cells: the dots of each in ascending order, `0` for the blank cell, joined
-/// by `-`. It is empty for no cells.
+/// The one text that spells cells with ascending dots, `0` for the blank cell, joined by `-`;
+/// `read_dots` gives the cells back. It is empty for no cells.
 pub fn write_dots(alloc: Global, cells: &[Cell]) -> Result<String, AllocError>
     ensures spelled { IfOk result (λ text. string_bytes text ≡ spelling cells.now) }
     // One cell or more are read back from the text, with any limit that they keep.

@@ -26,9 +26,9 @@ pub fn ascii_marks_differ()
     ensures range { (cell mark : ℕ) → ascii_mark cell ≡ Some mark → (32 ≤ mark) × (mark < 96) }
 {}
 
-/// Letters and digits have marks as in the decades of braille: `K` to `T` are `A` to `J` with dot
-/// 3, `U` to `Z` except `W` are `A` to `E` with the dots 3 and 6, and the digits are `A` to `J` one
-/// row lower.
+/// Letters and digits have their marks by the decades of braille. `K` to `T` are `A` to `J` with
+/// dot 3, `U` to `Z` except `W` are `A` to `E` with the dots 3 and 6, and the digits are `A` to `J`
+/// one row lower.
 #[tactic(auto, unfolding(crate::specs::Marks::ascii_mark))]
 pub fn ascii_marks_keep_decades()
     ensures first { ascii_marks first_decade ≡ marked (codes "ABCDEFGHIJ") }

@@ -18,7 +18,7 @@ pub fn to_ascii(cell: Cell) -> Option<u8>
     ASCII_MARKS.get(usize::from(cell.0)).copied()
 }
 
-/// The character of a cell in Unicode braille, U+2800 to U+28FF.
+/// The character of a cell in Unicode braille: U+2800 plus the cell's number.
 pub fn to_unicode(cell: Cell) -> char
     ensures { result ≡ unicode_mark cell }
 {

@@ -171,7 +171,8 @@ fn read_lines(alloc: Global, bytes: &[u8]) -> Result<Cert, Failure<CertFault>>
     read_version_lines(alloc, Seed::of(bytes), version, rest)
 }
 
-/// The certificate that bytes spell.
+/// The certificate that bytes spell; else the fault of the first faulty line, with its number from
+/// 1.
 ///
 /// Otherwise the fault is that of the first faulty line, with its number from 1. The faults of a
 /// line are tested in this order: `Truncated` where no line feed ends it; `Syntax` where it isn't,

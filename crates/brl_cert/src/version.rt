@@ -23,7 +23,7 @@ pub trait Version {
     // no field for one.
     ghost is_state: { Self.State → Type 0 };
 
-    /// Writes the fields of a state, each after a blank.
+    /// Appends the fields of a state, each after a blank.
     fn push_fields(out: &mut Vec<u8>, state: &Self::State) -> Result<(), AllocError>
         ensures written { OnOk result (out.new.items ≡ out.old.items ++ after_blanks (form.fields state.now)) }
         ensures in_range { OnOk result (is_state state.now) };

@@ -121,7 +121,7 @@ fn write_version<V: Version>(
 /// Why a certificate isn't written: memory runs out.
 pub type WriteFault = AllocError;
 
-/// The one spelling of a certificate.
+/// The one spelling of a certificate, which `read_cert` reads back.
 pub fn write_cert(alloc: Global, cert: &Cert) -> Result<Vec<u8>, WriteFault>
     ensures spelled { IfOk result (λ bytes. bytes.items ≡ spelling cert.now) }
     // Reading them gives the certificate back.

@@ -48,7 +48,7 @@ fn top_text(alloc: Global, form: ListForm<'_>, lines: &[Line<'_>]) -> Result<Str
 }
 
 /// The last lines of a list in a form: its verdict, and the line that names the characters of
-/// texts. Columns have none.
+/// texts; columns have none.
 pub fn last_lines(
     alloc: Global,
     form: ListForm<'_>,

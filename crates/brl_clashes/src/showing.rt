@@ -22,11 +22,11 @@ use brl_search::ClashList;
 use brl_stream::Output;
 use std::alloc::Global;
 
-/// Shows a list of clashes up to its verdict: what comes before the sections, and then what is left
-/// of each section beside what is excused, which is written when it is found. The last section is
-/// that of all texts, or one that isn't whole, since more states, pairs or pairs of rules than the
-/// limit were found. Answers what is kept of the sections. The observer hears which section is
-/// searched.
+/// Writes a list of clashes up to its verdict: sections with every pair at which clashing texts
+/// diverge, without the excused ones; or up to the limit. Each section is written when it is found,
+/// after what comes before all of them. The last section is that of all texts, or one that isn't
+/// whole, since more states, pairs or pairs of rules than the limit were found. Answers what is
+/// kept of the sections. The observer hears which section is searched.
 ///
 /// `OutputFailed` where the text can't be written, and `Memory` if memory runs out: then some first
 /// bytes of it may have been written.

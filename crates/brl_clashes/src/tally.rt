@@ -26,7 +26,7 @@ pub struct Tally {
 }
 
 impl Tally {
-    /// That of no sections. No memory is allocated.
+    /// The tally of no sections, of which nothing is kept. No memory is allocated.
     pub fn new(alloc: Global) -> Tally
         ensures whole { result.whole ≡ true }
         ensures none { result.none ≡ true }
@@ -43,7 +43,8 @@ impl Tally {
         }
     }
 
-    /// The outcome of the sections.
+    /// The outcome of the sections: that no pair is left, that some are and no others, or that
+    /// there may be others.
     pub fn outcome(&self) -> ListOutcome
         ensures { result ≡ outcome_by self.now.whole self.now.none }
     {

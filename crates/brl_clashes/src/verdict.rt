@@ -46,7 +46,7 @@ fn outcome_beside(accepted: usize, outcome: ListOutcome) -> ListOutcome
     }
 }
 
-/// The verdict lines of a list. Where a file was read, they say how many pairs it accepts.
+/// The verdict lines of a list, with its counts and, where a file was read, how much that excuses.
 pub fn verdict_text(
     alloc: Global,
     tally: &Tally,

@@ -152,7 +152,8 @@ pub struct PairFiles<'a> {
     pub prune: bool,
 }
 
-/// Why the words ask for no work, with the text of `clap` that answers them.
+/// Why there is nothing to run: help, the version, or a use fault, with the text of `clap` that
+/// answers the words.
 #[derive(Drop)]
 pub enum NotATask {
     /// They ask for help or the version. The text goes to standard output.
@@ -171,7 +172,7 @@ pub trait Words<'a> {
     // whether the words may ask for this
     ghost asks: { Self → Result Work (Failure NotATask) → Type 0 };
 
-    /// What the words ask for.
+    /// What the words ask for: a task with its folders, or a text of help or of a use fault.
     fn work(self, alloc: Global) -> Result<Work<'a>, Failure<NotATask>>
         ensures { asks self result };
 }

@@ -148,23 +148,24 @@ fn finish_files(
     Ok(new)
 }
 
-/// The table whose root has a path, with the lines that aren't read as comments, for the folder
-/// `dir`. A file gets the name in the include line that first leads to it, wherever it was found,
-/// and the root the last part of its path; so the files there are found in no other folder. Each
-/// line keeps its number and its end. A line that isn't read becomes a comment that says why: `# `,
-/// the reason, `: ` and the line; one of more than 2,048 bytes is cut off.
+/// The cut of the table whose root has a path, for the folder `dir`: its files, with the lines that
+/// aren't read as comments, and the table that they define. A file gets the name in the include
+/// line that first leads to it, wherever it was found, and the root the last part of its path; so
+/// the files there are found in no other folder. Each line keeps its number and its end. A line
+/// that isn't read becomes a comment that says why: `# `, the reason, `: ` and the line; one of
+/// more than 2,048 bytes is cut off.
 ///
 /// Lines are left out in this order: include lines as `gather` leaves them out; and then, again and
 /// again, the lines that a survey of the others finds faulty, until it finds none. So every command
 /// reads what is written.
 ///
-/// With `rewrite` lines are rewritten before faulty ones are left out. Before a line `noback OP C D
-/// ..` where `OP C D` by itself defines a character that is put, and ` # `, so that the line itself
-/// is a comment; then before a line `base uppercase C D` in the same way `uplow CD` with the dots
-/// that the small letter D has by other lines; and then before a line `contraction X`, where each
-/// character of X is defined and none is a capital, `word X` with the dots of the first
-/// `nocontractsign` line, those of the last `letsign` line and those of the characters, if these
-/// are 16 cells or fewer.
+/// With `rewrite` lines are rewritten before faulty ones are left out. Before a line
+/// `noback OP C D ..` where `OP C D` by itself defines a character that is put, and ` # `, so that
+/// the line itself is a comment; then before a line `base uppercase C D` in the same way `uplow CD`
+/// with the dots that the small letter D has by other lines; and then before a line
+/// `contraction X`, where each character of X is defined and none is a capital, `word X` with the
+/// dots of the first `nocontractsign` line, those of the last `letsign` line and those of the
+/// characters, if these are 16 cells or fewer.
 ///
 /// The last `letsign` line whose dots are read becomes an include line of a file that is made
 /// beside the root, `letsign-made.cti`. It has a `word` line for each letter before which the sign
@@ -206,9 +207,10 @@ pub fn cut_table<S: Source>(
     })
 }
 
-/// The files of a cut that was made for the folder `dir`, where `# can act: ` is put before the
-/// lines at these places, which are comments. A place has the path that its file had before it was
-/// cut. `NotRead` where the files define no table any more, which never comes of comments.
+/// The files of a cut with `# can act: ` before the comments at these places, and the table that
+/// they define; or why they define none. The cut was made for the folder `dir`. A place has the
+/// path that its file had before it was cut. `NotRead` where the files define no table any more,
+/// which never comes of comments.
 pub fn mark_lines(
     alloc: Global,
     of: &CutTable,

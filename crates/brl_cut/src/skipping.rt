@@ -22,9 +22,10 @@ pub struct WithoutDictionaries {
     pub skipped: Vec<LeftInclude>,
 }
 
-/// Loads the table whose root is at a path without the hyphenation dictionaries that it includes:
-/// files whose names end in `.dic`. Their patterns aren't lines of a table. Where an include line
-/// leads out of the root's folder, the dictionaries are loaded too, and none is skipped.
+/// Loads the lines of a table without the hyphenation dictionaries that it includes, and with the
+/// include lines that are skipped so; or the fault. A dictionary's name ends in `.dic`, and its
+/// patterns aren't lines of a table. Where an include line leads out of the root's folder, the
+/// dictionaries are loaded too, and none is skipped.
 ///
 /// A file that can't be read is a fault as in `load`.
 pub fn load_without_dictionaries<S: Source>(

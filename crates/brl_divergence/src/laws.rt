@@ -9,9 +9,9 @@ ghost use Rattle.brl_pairs.specs.Runs.{IsExact};
 
 use brl_pairs::{Machine, numbered_divergence_law};
 
-/// Over an exact machine a complete list has just the pairs of rules at which two different texts
-/// with the same translation diverge, and the two texts of each pair are such texts. By
-/// `brl_pairs::one_list_law` there is one such list.
+/// Over an exact machine a complete list has just the pairs of rules at which different texts with
+/// the same translation diverge, each with two such texts. By `brl_pairs::one_list_law` there is
+/// one such list.
 pub fn complete_list_law<M: Machine>(machine: &M)
     ensures { IsExact (M.behaviour machine.now) → (limit : ℕ) (list : ListValue) (body : BodyView M.State) →
         IsListed (M.behaviour machine.now) list → IsComplete (M.behaviour machine.now) limit list body →

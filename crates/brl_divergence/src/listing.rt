@@ -56,8 +56,8 @@ impl<'m, M: Parted> Model for Listing<'m, M> {
 }
 
 impl<'m, M: Parted> Listing<'m, M> {
-    /// The listing of a machine that has found the start. It finds states and pairs by hashes of
-    /// this seed, which is to be drawn from all that the machine depends on.
+    /// The listing of a machine that has found the start, or its answer. It finds states and pairs
+    /// by hashes of this seed, which is to be drawn from all that the machine depends on.
     pub fn start(
         alloc: Global,
         machine: &'m M,
@@ -153,8 +153,9 @@ impl<'m, M: Parted> Sliced for Listing<'m, M> {
     ghost fewer = { λ steps old new after. after.fewer };
 }
 
-/// Lists the divergences of a machine, with a seed as for `Listing::start`. `watch` hears of the
-/// progress before each slice of steps.
+/// Lists each pair of rules at which paths of a machine with the same cells diverge, with two
+/// texts, or finds the limit. The seed is as for `Listing::start`. `watch` hears of the progress
+/// before each slice of steps.
 pub fn list_divergences<M: Parted, W: Progress>(
     alloc: Global,
     machine: &M,

@@ -16,10 +16,9 @@ ghost use Rattle.brl_dues.specs.declared.carry.Carried.TheVariants.{Settled};
 
 use brl_rules::Table;
 
-/// The steps of a state are those of its base, in order: those whose gate the state opens, each
-/// with what the bars of the state leave past it, and without those that a bar breaks. Of two that
-/// became the same the first stays. So each is a step that the state has of one of its base. A base
-/// is its own base.
+/// The steps of a state are those of its base whose gate it opens and that none of its bars breaks,
+/// in order, each with what its bars leave past it. Of two that became the same the first stays. So
+/// each is a step that the state has of one of its base. A base is its own base.
 ///
 /// A bar that doesn't meet what a step reads is settled, so those that meet it leave the same as
 /// all. A step of the base past which no more is left stays as it is, and no other one becomes the

@@ -28,8 +28,9 @@ pub fn gathered_law()
     ensures { (carried : List CarriedValue) (dues : List DueValue) → gathered carried ≡ Some dues ↔ AreGathered carried dues }
 {}
 
-/// The law of one step, for every value of the state type and every rest over the table's
-/// characters.
+/// A rest of a text meets the dues of a state exactly where it is empty and the state is final, or
+/// it goes on by one step, which the table chooses. This holds for every value of the state type
+/// and every rest over the table's characters.
 pub fn step_law(table: &Table)
     ensures { (s : StateValue) (rest : List ℕ) → IsTrue (is_text table.now rest) → OneStep table.now s rest }
 {
@@ -47,10 +48,10 @@ pub fn exact_law(table: &Table)
     table.law();
 }
 
-/// The states of the dues machine and the cells of its steps come from finite lists that depend on
-/// the table alone: the start is among the states, a step from one of them leads to one of them,
-/// its cells are among the cells, and what these end with is among the leads. Each due of one of
-/// the states is among the dues.
+/// The states of the dues machine, and the cells of its steps, the dues and the leads, come from
+/// finite lists that depend on the table alone. The start is among the states, a step from one of
+/// them leads to one of them, its cells are among the cells, and what these end with is among the
+/// leads. Each due of one of the states is among the dues.
 pub fn finite_law()
     ensures start { (t : TableView) → Contains (all_states t) first_state }
     ensures steps { (t : TableView) (s : StateValue) (x : StepValue StateValue) → Contains (all_states t) s →

@@ -9,7 +9,7 @@ use brl_failure::Failure;
 use brl_lines::{LoadFault, Loaded, MapSource, files_in_memory_law, load};
 use std::alloc::Global;
 
-/// Loads over files in memory. The outcome is the one that all files of the map give.
+/// Loads over files in memory, with the outcome that all files of the map give.
 pub fn load_in_memory(
     alloc: Global,
     source: &mut MapSource,

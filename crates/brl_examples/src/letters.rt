@@ -107,7 +107,7 @@ pub fn numbered_letters_diverge_at_their_rules()
     numbered_divergence_law(&Letters);
 }
 
-/// The runs of the letters make such sets too.
+/// The runs of the letters are sets that are closed but for the pair of their two rules.
 pub fn runs_of_letters_are_closed()
     ensures { IsClosedBut letters a_or_b (sets_apart letters a_or_b) }
 {
@@ -115,7 +115,7 @@ pub fn runs_of_letters_are_closed()
     divergence_sets_law(&Letters);
 }
 
-/// Paths of the letters diverge where two steps are listed.
+/// Paths of the letters diverge at one place, where a state lists two steps.
 pub fn letters_diverge_where_listed()
     ensures { DivergeWhereListed letters }
 {

@@ -7,7 +7,7 @@ use brl_rules::Table;
 use brl_stream::{Counting, Form, LineFault, StreamFault, translate_lines};
 use std::alloc::Global;
 
-/// Translates an input in memory to ascii. `InputFailed` never comes.
+/// Translates an input in memory to ascii; `InputFailed` never comes.
 pub fn translate_bytes(
     alloc: Global,
     table: &Table,

@@ -35,11 +35,11 @@ use std::alloc::{AllocError, Global};
 /// The most cells of dots.
 const MOST_CELLS: usize = 16;
 
-/// What explains the line of a fault, or its code alone, which it begins with or has after
-/// `refused:`: the form of its line, when it comes, for a line of a table what it names, and what
-/// to do about it. Notes on this line follow: the opcode that may be meant, why its dots spell no
-/// cells, and by their numbers the characters that may be taken for others or not be seen. `None`
-/// where no fault has the code.
+/// What explains the line of a fault, or its code alone: its form, when it comes, what it names,
+/// what to do about it, and notes on this line. The line begins with its code, or has it after
+/// `refused:`; what it names is there for a line of a table. Notes are the opcode that may be
+/// meant, why its dots spell no cells, and by their numbers the characters that may be taken for
+/// others or not be seen. `None` where no fault has the code.
 ///
 /// Every line ends with LF. `AllocError` if memory runs out.
 pub fn explain(alloc: Global, line: &str) -> Result<Option<String>, AllocError>

@@ -50,8 +50,9 @@ fn room_for_a_chunk(alloc: Global) -> Result<Vec<u8>, AllocError>
     vec![in alloc; 0u8; CHUNK]
 }
 
-/// All bytes of a reader, if they are at most `MOST_FILE_BYTES`, read a chunk at a time. At most
-/// one byte more is read to tell. An interrupted read is a failed one.
+/// All bytes of a reader, if they are at most `MOST_FILE_BYTES`; `TooLarge` only where it has more.
+/// They are read a chunk at a time, and at most one more to tell. An interrupted read is a failed
+/// one.
 pub fn read_whole<R: Read>(
     alloc: Global,
     reader: &mut R,

@@ -63,7 +63,7 @@ pub enum GatherFault {
 }
 
 /// Gathers the files of the table whose root has a path: the root, and the files to which include
-/// lines lead, where `load` finds them.
+/// lines lead, with their names and the lines that are left out. They are where `load` finds them.
 ///
 /// An include line is left out, in this order, where it includes a hyphenation dictionary, whose
 /// name ends in `.dic`; where its file was gone through before, or leads to it; and where its file

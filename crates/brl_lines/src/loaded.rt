@@ -43,9 +43,9 @@ impl Model for Loaded {
 }
 
 impl Loaded {
-    /// The lines that do something, in order, each include line replaced by the lines of its file.
-    /// Their tokens are slices of the texts that were read. `AllocError` where an allocation
-    /// failed.
+    /// The lines that do something, each include line replaced by those of its file; their tokens
+    /// are in order and don't overlap. Tokens are slices of the texts that were read. `AllocError`
+    /// where an allocation failed.
     pub fn lines(&self, alloc: Global) -> Result<Vec<Line<'_>>, AllocError>
         ensures lines { IfOk result (λ v. map line_view v.items ≡ self.now.lines) }
         ensures in_order { All IsInOrder self.now.lines }
@@ -77,19 +77,20 @@ impl Loaded {
     }
 }
 
-/// Reads the table whose root is at a path, and the files that it includes, each path once, as
-/// lines lead to them.
+/// Reads the table whose root is at a path: its lines, each include line replaced, as slices of the
+/// files that are found; or the first fault.
 ///
-/// A line `include NAME` is replaced by the lines of the file at NAME where that begins with `/`,
-/// else of the file NAME in the root's folder. Where there is no file, it is looked for by its name
-/// in the folders of the source, in their order, unless the name begins with `/` or the file would
-/// be too deep; so is the root, whose name is its path. A file that is found is named by the path
-/// where it is. The first fault decides. An include line is refused, in this order, as
-/// `TooManyIncludes` where 1,024 were followed before, as `Cycle` where its file leads to itself,
-/// and as `TooDeep` where its file would be deeper than 16, the root being 1; the file then, as the
-/// root, as `NotFound`, `ReadFailed` or `TooLarge` where the source says so, as `TooLarge` where it
-/// gave more than `MOST_FILE_BYTES` all the same, as `NotUtf8`, and as `LineTooLong` at its first
-/// line of more than 2,048 bytes. An include line with no name stays among the lines.
+/// Each path is read once, as lines lead to it. A line `include NAME` is replaced by the lines of
+/// the file at NAME where that begins with `/`, else of the file NAME in the root's folder. Where
+/// there is no file, it is looked for by its name in the folders of the source, in their order,
+/// unless the name begins with `/` or the file would be too deep; so is the root, whose name is its
+/// path. A file that is found is named by the path where it is. An include line is refused, in this
+/// order, as `TooManyIncludes` where 1,024 were followed before, as `Cycle` where its file leads to
+/// itself, and as `TooDeep` where its file would be deeper than 16, the root being 1; the file
+/// then, as the root, as `NotFound`, `ReadFailed` or `TooLarge` where the source says so, as
+/// `TooLarge` where it gave more than `MOST_FILE_BYTES` all the same, as `NotUtf8`, and as
+/// `LineTooLong` at its first line of more than 2,048 bytes. An include line with no name stays
+/// among the lines.
 pub fn load<S: Source>(
     alloc: Global,
     source: &mut S,

@@ -106,8 +106,8 @@ fn next_character(text: &str) -> Option<(char, &str)>
     }
 }
 
-/// The characters that an operand spells: a character means itself, except in the escapes of the
-/// definition `characters_of`. `BadEscape` where it has any other escape.
+/// The characters that an operand spells; `BadEscape` where it spells none. A character means
+/// itself, except in the escapes of the definition `characters_of`; no other escape is allowed.
 pub fn chars_of(alloc: Global, operand: &str) -> Result<Vec<char>, Failure<CharsFault>>
     ensures { GivesAs (λ found. found.items) (λ fault. fault) (characters_of operand.now) result }
 {

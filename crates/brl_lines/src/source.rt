@@ -32,8 +32,9 @@ pub trait Source {
     // how often it has failed
     ghost faults: { Self → ℕ };
 
-    /// All bytes of the file at `path`. `NotFound` where there is none, `TooLarge` where it has
-    /// more than `MOST_FILE_BYTES`, and `Failed` where it could not be read.
+    /// Reads all bytes of the file at `path`; what the source gives stays, and `failures` rises
+    /// exactly where the read failed. `NotFound` where there is none, `TooLarge` where it has more
+    /// than `MOST_FILE_BYTES`, and `Failed` where it could not be read.
     fn read(&mut self, alloc: Global, path: &str) -> Result<Vec<u8>, Failure<SourceFault>>
         ensures answer { IsAnswer (MayAnswer (gives self.old) path.now) result }
         ensures same { gives self.new ≡ gives self.old }

@@ -38,7 +38,7 @@ fn push_spelled(text: &mut String, character: char) -> Result<(), AllocError>
     text.push(character)
 }
 
-/// The text that spells characters, which `chars_of` reads back. A backslash, a blank, the
+/// The one operand that spells characters, which `chars_of` reads back. A backslash, a blank, the
 /// characters 9 to 13 and 27 are written by their escapes of one mark, all other characters below
 /// 32 and 127 by `\x` and four hexadecimal digits in lower case, and every other character as
 /// itself. So an operand has no blank and no line feed in it. `AllocError` where the text finds no

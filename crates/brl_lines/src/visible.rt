@@ -40,8 +40,8 @@ fn is_unseen_category(category: GeneralCategory) -> bool
     )
 }
 
-/// Whether a character can't be seen: a blank or a control character, one that is ignored by
-/// default, or a blank of another kind, the braille pattern without dots among them.
+/// Whether a character can't be seen: a blank of any kind, a control character, one that is ignored
+/// by default, or the braille pattern without dots.
 pub fn is_unseen(character: char) -> bool
     ensures { result ≡ cannot_be_seen character }
 {
@@ -172,9 +172,10 @@ fn push_text(text: &mut String, characters: &[char]) -> Result<(), AllocError>
     push_rest(text, rest)
 }
 
-/// The text that spells characters as `spell_chars` does, and those that can't be seen too: by `\x`
-/// and four hexadecimal digits, above U+FFFF by `\y` and five, above U+FFFFF by `\z` and eight. So
-/// is a combining mark at the beginning. `chars_of` reads it back. `AllocError` if memory runs out.
+/// The text that spells characters as `spell_chars` does, and by number those that can't be seen;
+/// `chars_of` reads it back. A number is `\x` and four hexadecimal digits, above U+FFFF `\y` and
+/// five, above U+FFFFF `\z` and eight. A combining mark at the beginning is spelled so, too.
+/// `AllocError` if memory runs out.
 pub fn spell_visibly(alloc: Global, characters: &[char]) -> Result<String, AllocError>
     ensures spelled { IfOk result (λ text. string_bytes text ≡ encode_utf8_all (visible_text characters.now)) }
     ensures read_back { IfOk result (λ text. characters_of (string_bytes text) ≡ Ok characters.now) }

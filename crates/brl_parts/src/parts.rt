@@ -61,8 +61,8 @@ impl<P: Key> Parts<P> {
         self.parts.index_of(part)
     }
 
-    /// The number of a part, from 0, if it is kept. The part with the number `likely` is tried
-    /// first, which costs less than a look-up by hash.
+    /// The number of a part, from 0, if it is kept; the part with the number `likely` is tried
+    /// first. That costs less than a look-up by hash.
     pub fn number_near(&self, part: &P, likely: usize) -> Option<usize>
         ensures { IfSome result (λ number. slice_get self.now.parts number ≡ Some part.now) }
     {
@@ -72,9 +72,9 @@ impl<P: Key> Parts<P> {
         }
     }
 
-    /// Keeps a part with these edges, and returns its number. A part that is kept already keeps the
-    /// edges that it has. The parts before keep their numbers and edges. After `AllocError` they do
-    /// too.
+    /// Keeps a part with these edges, and returns its number; a part that is kept already keeps the
+    /// edges that it has, and so do all others. The others keep their numbers, too, also after
+    /// `AllocError`.
     pub fn add(&mut self, part: P, edges: Vec<ListedEdge>) -> Result<usize, AllocError>
         ensures number { IfOk result (λ number. slice_get self.new.parts number ≡ Some part) }
         ensures known { IsMember self.old.parts part → OnOk result (self.new ≡ self.old) }
@@ -104,8 +104,8 @@ impl<P: Key> Parts<P> {
         let _ = self.edges.as_slice();
     }
 
-    /// The edges of the parts with these numbers by ascending rule. Those of one rule are in the
-    /// order of the parts.
+    /// The edges of the parts with these numbers by ascending rule, those of one rule in the order
+    /// of the parts.
     pub fn by_rule(&self, alloc: Global, numbers: &[usize]) -> Result<Vec<ListedEdge>, AllocError>
         requires { All (λ number. number < length self.now.parts) numbers.now }
         ensures { IfOk result (λ listed. AreByRule (flat_map (edges_of self.now) numbers.now) listed.items) }

@@ -22,7 +22,7 @@ impl<'m, M: Machine> Model for Whole<'m, M> {
 }
 
 impl<'m, M: Machine> Whole<'m, M> {
-    /// The machine as a whole. No memory is allocated.
+    /// The machine as a whole, which says nothing of parts. No memory is allocated.
     pub fn new(machine: &'m M) -> Whole<'m, M>
         ensures { result.machine ≡ machine.entry.now }
     {

@@ -99,12 +99,14 @@ impl<'c, C: Clock, E: Write> Console<'c, C, E> {
 }
 
 impl<'c, C: Clock, E: Write> Progress for Console<'c, C, E> {
+    /// Writes nothing where the stream is no terminal.
     fn begin(&mut self, part: &'static str)
         ensures { IsSilent self.old self.new }
     {
         self.part = part;
     }
 
+    /// Writes nothing where the stream is no terminal.
     fn report(&mut self, work: Work)
         ensures { IsSilent self.old self.new }
     {
@@ -121,6 +123,7 @@ impl<'c, C: Clock, E: Write> Progress for Console<'c, C, E> {
         self.due = elapsed.saturating_add(Duration::from_millis(PAUSE));
     }
 
+    /// Writes nothing where the stream is no terminal.
     fn end(&mut self)
         ensures { IsSilent self.old self.new }
     {

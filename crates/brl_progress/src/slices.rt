@@ -31,8 +31,8 @@ pub trait Sliced: Sized + Drop {
     /// How far it is.
     fn work(&self) -> Work;
 
-    /// Continues the work for at most this number of steps. After `AllocError` it can't be
-    /// continued.
+    /// Continues the work for at most this number of steps: gives its outcome, or the work that is
+    /// left after this number. After `AllocError` it can't be continued.
     fn run(self, steps: u64) -> Result<Slice<Self, Self::Outcome>, AllocError>
         ensures finished { IfOk result (IfFinished (ends_with self)) }
         ensures unfinished { IfOk result (IfUnfinished (comes_to steps self)) };
@@ -47,7 +47,8 @@ pub trait Sliced: Sized + Drop {
 /// The most steps between two reports.
 const SLICE: u64 = 16;
 
-/// Runs work to its end, and reports its progress to `watch` before each slice of steps.
+/// Runs work to its end, with an outcome that no observer changes; `watch` hears of the progress
+/// before each slice of steps.
 pub fn run_to_end<S: Sliced, W: Progress>(
     begun: Slice<S, S::Outcome>,
     watch: &mut W,

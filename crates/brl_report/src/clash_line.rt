@@ -12,10 +12,9 @@ use brl_lines::{Line, spell_visibly};
 use brl_rules::Table;
 use std::alloc::{AllocError, Global};
 
-/// Appends the line of a clash of a table whose texts diverge at the rules with two numbers: the
-/// texts as they are spelled in a table, their cells in dots, and of each rule the file and line,
-/// the opcode and the characters. The rule of the left text comes first. The opcodes are those of
-/// the table's lines.
+/// Appends the line of a clash: its two texts and their cells, and the two rules at which they
+/// diverge, each with file, line, opcode and characters. The texts are as in a table, the cells in
+/// dots. The rule of the left text comes first. The opcodes are those of the table's lines.
 pub fn push_clash_line(
     alloc: Global,
     table: &Table,

@@ -26,10 +26,9 @@ fn header(alloc: Global, clash: &Clash) -> Result<String, AllocError>
 /// Why there is no report: memory runs out.
 pub type ReportFault = AllocError;
 
-/// The report of a clash of a table: its two texts and their cells, and then for each text the
-/// steps of its translation from the first one that the other text doesn't have. A step's line has
-/// its characters, its cells, and the file and line of its rule, or of the line that gave the
-/// character its cells.
+/// The report of a clash: its texts and their cells, and of each text the steps of its translation
+/// from the first one that the other doesn't have. A step's line has its characters, its cells, and
+/// the file and line of its rule, or of the line that gave the character its cells.
 ///
 /// Every line ends with LF. Texts are spelled as in an operand of a table. The first two columns of
 /// a side are as wide as their widest entries.

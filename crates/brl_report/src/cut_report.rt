@@ -8,11 +8,11 @@ use crate::survey::{count_faulty, push_counts, push_file_read};
 use brl_table::{Cut, FaultyLine};
 use std::alloc::{AllocError, Global};
 
-/// The report of a cut: how many lines are kept and, where lines might be rewritten, how many of
-/// these are; how many of those that are left out there are of each opcode, and whether the profile
-/// or liblouis has it; and for each file that has some, how many of its lines are read. Opcodes of
-/// more lines come first, and those of as many by name; files in the order in which include lines
-/// first lead to them.
+/// The report of a cut: how many lines are kept, how many are left out of each opcode, and of each
+/// file that has some how many lines are read. Where lines might be rewritten, it says how many of
+/// those that are kept were. Of an opcode it says whether the profile or liblouis has it. Opcodes
+/// of more lines come first, and those of as many by name; files in the order in which include
+/// lines first lead to them.
 ///
 /// Every line ends with LF. `AllocError` if memory runs out.
 pub fn report_of_cut(alloc: Global, cut: &Cut, rewrite: bool) -> Result<String, AllocError>

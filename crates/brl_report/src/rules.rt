@@ -120,10 +120,10 @@ pub fn first_unknown(table: &Table, numbers: &[u32]) -> Option<u32>
     numbers.iter().copied().find(|number| count <= *number)
 }
 
-/// The rules of a table that have these numbers, each with the opcode of its line among the table's
-/// lines: for each a line with the number, the opcode, the characters as they are spelled in a
-/// table, the cells in dots, and the file and line. For a character's own definition these are of
-/// the line that gave it its cells. A number that no rule has gives no line.
+/// The rules of a table that have these numbers, each with number, opcode, characters as in a
+/// table, cells in dots, file and line. The opcode is that of the rule's line among the table's
+/// lines. For a character's own definition these are of the line that gave it its cells. A number
+/// that no rule has gives no line.
 ///
 /// Every line ends with LF. `AllocError` if memory runs out.
 pub fn rules_report(
@@ -142,9 +142,10 @@ pub fn rules_report(
     Ok(text)
 }
 
-/// What the rule of a table with a number says: the opcode of its line among the table's lines, its
-/// characters as they are spelled in a table, and its cells in dots, with a blank between two of
-/// these. It names neither the rule's number nor its line. Empty where no rule has the number.
+/// What the rule of a table with a number says: its opcode, its characters as in a table, and its
+/// cells in dots, with a blank between two of these. The opcode is that of its line among the
+/// table's lines. It names neither the rule's number nor its line. Empty where no rule has the
+/// number.
 pub fn rule_words(
     alloc: Global,
     table: &Table,

@@ -17,12 +17,12 @@ const SECOND_PASS: &str =
 /// The note where no line defines a character.
 const NO_CHARACTER: &str = "no line defines a character\n";
 
-/// The report of a survey of lines, of files with these paths, with what it found: the fault of
-/// each faulty line, unless the report is to be brief; how many of them there are of each opcode,
-/// and whether the profile or liblouis has it; for each file that has some, how many of its lines
-/// are read; that the second pass wasn't made, or that no line defines a character; and how many of
-/// all lines are read. Opcodes of more lines come first, and those of as many by name; files in the
-/// order of their paths.
+/// The report of a survey: the fault of each faulty line, how many of them are of each opcode, and
+/// how many lines of each file and of all are read. One that is to be brief has no faults. Of an
+/// opcode it says whether the profile or liblouis has it, and of files only those are there that
+/// have faulty lines. It says so where the second pass wasn't made, or no line defines a character.
+/// Opcodes of more lines come first, and those of as many by name; files in the order of their
+/// paths.
 ///
 /// Every line ends with LF. `AllocError` if memory runs out.
 pub fn survey_report(

@@ -16,15 +16,14 @@ use brl_lines::Line;
 use brl_rules::Table;
 use std::alloc::Global;
 
-/// The report of a text: the text, its cells, and the steps of its translation. A step's line has
-/// its characters, the cells of the indicators before them (`-` for none), the cells of its rule,
-/// and the file and line of its rule, or of the line that gave the character its cells. It is
-/// followed by those of `lines` by which the step is made: the lines of its indicators, and that of
-/// its rule. With no lines given there are none.
+/// The report of a text: the text, its cells and the steps of its translation; or the same
+/// `UnknownChar` as `trace`. A step's line has its characters, the cells of the indicators before
+/// them (`-` for none), the cells of its rule, and the file and line of its rule, or of the line
+/// that gave the character its cells. It is followed by those of `lines` by which the step is made:
+/// the lines of its indicators, and that of its rule. With no lines given there are none.
 ///
 /// Every line ends with LF. Texts are spelled as in an operand of a table. The columns before the
-/// location are as wide as their widest entries. `UnknownChar` where the table doesn't define a
-/// character.
+/// location are as wide as their widest entries.
 pub fn trace_report(
     alloc: Global,
     table: &Table,

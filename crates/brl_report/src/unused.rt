@@ -11,9 +11,10 @@ use brl_lines::Line;
 use brl_rules::Table;
 use std::alloc::{AllocError, Global};
 
-/// The rules of a table that have these numbers, as those that no text uses: for each the entry of
-/// the list of rules, and the rule that is chosen for its characters where these are a text and it
-/// isn't chosen itself. The last line says how many they are, and how many rules the table has.
+/// The rules of a table that have these numbers, as those that no text uses: each as in the list of
+/// rules, with the rule that is chosen instead. That rule is there where its characters are a text
+/// and it isn't chosen itself. The last line says how many they are, and how many rules the table
+/// has.
 ///
 /// Every line ends with LF. `AllocError` if memory runs out.
 pub fn unused_report(

@@ -24,9 +24,9 @@ pub struct Choice<'a> {
 }
 
 impl Table {
-    /// The rule that the table chooses at the start of `rest`, after a character with these
-    /// classes: the first in rank that fits, else the own definition of the first character. `rest`
-    /// is the text to its end.
+    /// The rule that the table chooses at the start of `rest`, of which it takes one character or
+    /// more: the first in rank that fits, else the own definition. `rest` is the text to its end,
+    /// after a character with these classes. The own definition is that of its first character.
     pub fn choice(&self, before: Class, rest: &[char]) -> Choice<'_>
         requires { 0 < length rest.now }
         ensures choice { IsChoice result (chosen self.now before rest.now) }
@@ -80,10 +80,10 @@ impl Table {
         }
     }
 
-    /// The number of the rule that the table chooses at the start of `rest`, after a character with
-    /// these classes: a rule's place in rank, from 0, and after the rules the own definitions by
-    /// the numbers of their characters. `None` where `rest` is empty or the table doesn't define
-    /// its first character.
+    /// The number of the rule chosen at the start of `rest`; `None` where that is empty or the
+    /// table doesn't define its first character. The character before has these classes. The number
+    /// of a rule is its place in rank, from 0; after the rules come the own definitions by the
+    /// numbers of their characters.
     pub fn choose(&self, before: Class, rest: &[char]) -> Option<u32>
         ensures { result ≡ chosen_number self.now before rest.now }
     {

@@ -44,9 +44,9 @@ impl Table {
             && self.has_word_capitals()
     }
 
-    /// Whether a rest of a text begins in a run of capitals, after a character with these classes:
-    /// its first character is a capital, and so is the one before it or the one after it. Never so
-    /// in a table without word capitals. `rest` is the text to its end.
+    /// Whether a rest of a text begins in a run of capitals: with a capital that comes before or
+    /// after another one. The character before has these classes. Never so in a table without word
+    /// capitals. `rest` is the text to its end.
     pub fn is_in_caps_run(&self, before: Class, rest: &[char]) -> bool
         ensures { result ≡ is_in_caps_run self.now before rest.now }
     {

@@ -21,16 +21,16 @@ pub fn signs_law()
     ensures same { (sign other : Sign) → IsTrue (is_same_sign sign other) → sign ≡ other }
 {}
 
-/// Rules have one ranking only, which `in_rank` computes. In rank, longer rules come first.
+/// Rules have one ranking only, which `in_rank` computes, and in which longer rules come first.
 pub fn rank_law()
     ensures one { (lines one other : List Rule) → IsRanking lines one → IsRanking lines other → one ≡ other }
     ensures computed { (lines : List Rule) → IsRanking lines (in_rank lines) }
     ensures longer_first { (rules : List Rule) → IsInRank rules → AllPairs (λ r s. length s.chars ≤ length r.chars) rules }
 {}
 
-/// Which rule is chosen. A rule fits at the start of a rest exactly where it fits at that position
-/// of the whole text. The chosen rule is the first in rank that fits, else the own definition. It
-/// takes at least one character, and no more than there are.
+/// The chosen rule is the first in rank that fits, else the own definition; a rule fits a rest
+/// where it fits at that position of the text. The chosen rule takes at least one character, and no
+/// more than there are.
 pub fn choice_laws()
     ensures fitting { (t : TableView) (text : List ℕ) (i : ℕ) (r : Rule) →
         IsTrue (fits t (classes_before t text i) (drop i text) r) ↔ FitsAt t text i r }
@@ -44,9 +44,10 @@ pub fn choice_laws()
         (chosen t before rest).taken ≤ length rest }
 {}
 
-/// A translation, one rule at a time. From a position on it is the indicators there, the chosen
-/// rule's cells, and the translation from after the rule's last character on. It depends only on
-/// the context and the rest of the text, and so does the context after more characters.
+/// A translation goes rule by rule, and depends on the context and the rest of the text alone. From
+/// a position on it is the indicators there, the chosen rule's cells, and the translation from
+/// after the rule's last character on. The context after more characters depends on these alone,
+/// too.
 pub fn translation_laws()
     ensures position { (t : TableView) (text : List ℕ) (i : ℕ) → i < length text →
         translation_from t text (length text) i

@@ -69,7 +69,7 @@ impl Place {
         self.conditions(before).after
     }
 
-    /// Whether it is any but `always`.
+    /// Whether the place is any but `always`.
     pub fn is_placed(self) -> bool
         ensures { result ≡ does_place self }
     {

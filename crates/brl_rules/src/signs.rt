@@ -90,7 +90,7 @@ impl Indicators {
         self.cells[sign.number()].as_slice()
     }
 
-    /// Gives an indicator these cells.
+    /// Gives an indicator these cells; the others keep theirs.
     pub fn set(&mut self, sign: Sign, cells: Cells)
         ensures { self.new ≡ with_cells self.old sign cells }
     {

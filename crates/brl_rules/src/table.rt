@@ -55,14 +55,14 @@ impl Table {
         Ok(Table { parts, tree })
     }
 
-    /// What every table keeps, for proofs in the crates above. The contract is the law.
+    /// A law: every table keeps its limits, and its rules are in rank.
     pub fn law(&self)
         ensures { IsTable self.now }
     {
         let _ = &self.parts;
     }
 
-    /// The info of a character. `None` where the table doesn't define it.
+    /// What the table has of a character; `None` where it doesn't define it.
     pub fn info(&self, character: char) -> Option<&Info>
         ensures value { option_copied result ≡ info_of self.now character }
         ensures number { IfSome result (λ info. info.now.number < 1024) }
@@ -90,7 +90,7 @@ impl Table {
         }
     }
 
-    /// The number of characters that the table defines.
+    /// The number of characters that the table defines, at most 1,024.
     pub fn char_count(&self) -> usize
         ensures count { result ≡ length self.now.characters }
         ensures few { result ≤ 1024 }
@@ -107,7 +107,7 @@ impl Table {
         *character
     }
 
-    /// The used rules in rank. A rule's number is its place here, from 0.
+    /// The used rules in rank, at most 4,096. A rule's number is its place here, from 0.
     pub fn rules_in_rank(&self) -> &[Rule]
         ensures rules { result.now ≡ self.now.rules }
         ensures few { length result.now ≤ 4096 }
@@ -124,7 +124,7 @@ impl Table {
         self.tree.root(first)
     }
 
-    /// The cells of an indicator: none where it isn't defined.
+    /// The cells of an indicator, at most 16: none where it isn't defined.
     pub fn indicator(&self, sign: Sign) -> &[Cell]
         ensures cells { result.now ≡ indicator_cells self.now sign }
         ensures few { length result.now ≤ 16 }

@@ -35,7 +35,8 @@ pub struct Findings {
     pub judged: usize,
 }
 
-/// The slips, habits and twins of a table.
+/// The slips among the first rules of a table, its habits and its twins; the slips of no habit are
+/// shown, each once, in order.
 pub fn find_slips(alloc: Global, lexicon: &Lexicon) -> Result<Findings, AllocError>
     ensures slips { IfOk result (λ found. AreSlips lexicon.now found.judged found.slips.items) }
     ensures habits { IfOk result (λ found. AreHabits lexicon.now found.slips.items found.habits.items) }

@@ -48,7 +48,7 @@ pub struct Lexicon {
     pub entries: Vec<Entry>,
 }
 
-/// What lines give.
+/// The characters, pieces and rules that the lines of a table give.
 pub fn read_lexicon(alloc: Global, lines: &[Line<'_>]) -> Result<Lexicon, AllocError>
     ensures { IfOk result (IsLexicon (map line_view lines.now)) }
 {

@@ -39,7 +39,7 @@ impl<S: HasCaps> Model for CapsFree<S> {
 }
 
 impl<S: HasCaps> CapsFree<S> {
-    /// A body whose states no run goes to.
+    /// A body to whose states no run of capitals goes.
     pub fn new(body: Body<S>) -> CapsFree<S>
         requires { AreCapsFree S.run body.states }
         ensures { result ≡ body }
@@ -47,7 +47,7 @@ impl<S: HasCaps> CapsFree<S> {
         CapsFree { body }
     }
 
-    /// The body.
+    /// The body, to whose states no run of capitals goes.
     pub fn body(&self) -> &Body<S>
         ensures body { result.now ≡ self.now }
         ensures caps_free { AreCapsFree S.run result.now.states }

@@ -17,7 +17,7 @@ pub enum Cert {
 }
 
 impl Cert {
-    /// The numbers of its states and of its pairs.
+    /// The numbers of states and of pairs that a certificate lists.
     pub fn counts(&self) -> (usize, usize)
         ensures states { result.0 ≡ state_count self.now }
         ensures pairs { result.1 ≡ pair_count self.now }

@@ -39,7 +39,7 @@ impl DuesState {
         }
     }
 
-    /// What it knows of the characters before.
+    /// The context of the state: what it knows of the characters before.
     pub fn context(&self) -> Context
         ensures { result ≡ context_of self.now }
     {

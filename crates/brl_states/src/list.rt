@@ -69,7 +69,7 @@ impl DueList {
         self.items.len()
     }
 
-    /// The dues.
+    /// The dues, each of them proper, ascending and without repeats.
     pub fn as_slice(&self) -> &[Due]
         ensures dues { result.now ≡ self.now }
         ensures kept { AreDues self.now }

@@ -50,10 +50,9 @@ pub struct Findings {
     pub has_characters: bool,
 }
 
-/// The lines that have a fault, in order, each with its fault. These are the faults of the first
-/// pass of `read_table` and, where it finds none, those of the second one. A line with a fault of
-/// the first pass defines nothing: each line is read after the good lines before it. `AllocError`
-/// if memory runs out.
+/// The lines that have a fault, in order, each with its fault: of the first pass of `read_table`
+/// or, where that finds none, of the second one. A line with a fault of the first pass defines
+/// nothing: each line is read after the good lines before it. `AllocError` if memory runs out.
 pub fn survey(alloc: Global, lines: &[Line<'_>]) -> Result<Findings, AllocError>
     ensures { IfOk result (λ found. findings_view found ≡ survey_of (map line_view lines.now)) }
 {
@@ -75,7 +74,7 @@ pub fn survey(alloc: Global, lines: &[Line<'_>]) -> Result<Findings, AllocError>
 }
 
 /// The characters that the lines without a fault by themselves define, in the order of their first
-/// definitions, each with what they define for it; no list gives it a role. `AllocError` if memory
+/// definitions, each with what they define for it. No list gives it a role. `AllocError` if memory
 /// runs out.
 pub fn good_characters(
     alloc: Global,
@@ -175,9 +174,9 @@ fn prefixed_word<'a>(line: &Line<'a>) -> Option<&'a str>
     }
 }
 
-/// A survey finds no line with a fault by itself exactly where the first pass finds none. Where
-/// that finds the first fault of the lines, it is that of the first line found. It finds no faulty
-/// line at all exactly where both passes find none, so that the lines define a table.
+/// A survey finds no line with a fault by itself, or none at all, exactly where the first pass, or
+/// both, find none; first is the line with the first fault. Where both find none the lines define a
+/// table.
 pub fn survey_laws()
     ensures none { (lines : List LineView) → (faulty_lines lines ≡ []) ↔ PassesFirst lines }
     ensures first { (lines : List LineView) (found : Fault) → IsFaultOf lines found → (PassesFirst lines → ⊥) →

@@ -14,9 +14,9 @@ use brl_lines::{Loaded, Source, load, one_answer_law};
 use brl_rules::Table;
 use std::alloc::Global;
 
-/// The table with its root at a path: its files are loaded, and their lines are read. `Load` where
-/// a file can't be loaded, `Table` where a line is faulty. A file is reported as unreadable only
-/// where the source couldn't read it.
+/// The table that the files with its root at a path define; `Load` where a file can't be loaded,
+/// `Table` where a line is faulty. A file is reported as unreadable only where the source couldn't
+/// read it.
 pub fn load_table<S: Source>(
     alloc: Global,
     source: &mut S,
@@ -41,7 +41,7 @@ pub fn table_of_loaded(alloc: Global, loaded: &Loaded) -> Result<Table, Failure<
     read_table(alloc, lines.as_slice())
 }
 
-/// A source with one answer for each path has at most one table at a path. Where it has one, no
+/// A source with one answer for each path has at most one table at a path; where it has one, no
 /// fault keeps it from being loaded.
 pub fn one_table_law<S: Source>(source: &S)
     ensures table { IsDeterministic (S.gives source.now) → (root : List ℕ) (one other : TableView) →

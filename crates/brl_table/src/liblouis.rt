@@ -138,8 +138,8 @@ pub enum OpcodeOrigin {
     Unknown,
 }
 
-/// Whose opcode this is, as a survey counts it: a word, or a prefix, a blank and a word. After a
-/// prefix the profile has place opcodes alone.
+/// Whether the profile, liblouis alone or neither has an opcode: a word, or a prefix, a blank and a
+/// word, as a survey counts it. After a prefix the profile has place opcodes alone.
 pub fn origin_of(opcode: &str) -> OpcodeOrigin
     ensures { result ≡ origin_by opcode.now }
 {

@@ -14,10 +14,10 @@ use brl_lines::Source;
 use brl_report::report_with;
 use std::alloc::Global;
 
-/// Compares the texts of two words by the table whose file is at a path. With escapes they are read
-/// as operands of a table, and with lines each step of a report is followed by the table's lines by
-/// which it is made. The texts are read before the table, the left one first. The answer is the
-/// report of a clash, or `no clash`.
+/// Compares the texts of two words by the table of a file: the report of a clash, `no clash` where
+/// there is none, or the fault. With escapes they are read as operands of a table, and with lines
+/// each step of a report is followed by the table's lines by which it is made. The texts are read
+/// before the table, the left one first.
 pub fn compare_by_words<S: Source>(
     alloc: Global,
     source: &mut S,

@@ -51,15 +51,15 @@ pub struct ListInput {
     pub baseline: Option<String>,
 }
 
-/// Lists the pairs of rules of the table whose file is at a path at which clashing texts diverge,
-/// for texts of the characters of which the option says that they are made. Sections are printed
-/// when they are found; the answer has what comes after them. The pairs that the file at
-/// `pairs.accept` names are left out, and those that are left go to the file at `pairs.write`,
-/// unless there may be others. Its stale lines name none; with `pairs.prune` they are taken out of
-/// it. Standard error gets these lines, and reports of progress. `PairsWouldOverwrite` where the
-/// file that is written is one of the table's, or that of the accepted pairs and not its own;
-/// `NotDefined` where the table lacks characters of the option; `OutputFailed` where a section
-/// can't be printed. Before another fault but `Memory` nothing is printed.
+/// Lists the pairs of rules at which clashing texts diverge by the table of a file, as `show_list`
+/// does, and answers the verdict, or the fault. The texts are those of the characters of which the
+/// option says that they are made. The pairs that the file at `pairs.accept` names are left out,
+/// and those that are left go to the file at `pairs.write`, unless there may be others. Its stale
+/// lines name none; with `pairs.prune` they are taken out of it. Standard error gets these lines,
+/// and reports of progress. `PairsWouldOverwrite` where the file that is written is one of the
+/// table's, or that of the accepted pairs and not its own; `NotDefined` where the table lacks
+/// characters of the option; `OutputFailed` where a section can't be printed. Before another fault
+/// but `Memory` nothing is printed.
 pub fn list_clashes_by_words<F: Files, O: Output, E: Write + Progress>(
     alloc: Global,
     files: &mut F,

@@ -26,12 +26,11 @@ pub struct CutRequest<'a> {
     pub only: Option<&'a str>,
 }
 
-/// Cuts the table whose file is at a path, with lines rewritten where that is asked for: the answer
-/// has the cut's files, which are new, for the folder; and its report, and a line that there is no
-/// verdict. Where characters are given, it also says which lines of the table can act on texts of
-/// these characters. The status is that of a refutation where one can, and where the opcode of a
-/// line that is left out is none of liblouis'. `NotDefined` where the cut lacks characters of
-/// these.
+/// Cuts the table of a file: the answer has the cut's files, which are new, for the folder, its
+/// report, and a line that there is no verdict. Lines are rewritten where that is asked for. Where
+/// characters are given, it also says which lines of the table can act on texts of these
+/// characters. The status is that of a refutation where one can, and where the opcode of a line
+/// that is left out is none of liblouis'. `NotDefined` where the cut lacks characters of these.
 pub fn cut_by_words<F: Files>(
     alloc: Global,
     files: &mut F,

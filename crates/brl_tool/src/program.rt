@@ -25,13 +25,14 @@ use brl_progress::Progress;
 use std::alloc::Global;
 use std::io::Write;
 
-/// Does what the words ask for, and answers the exit status: 0 where the work was done, 1 where two
-/// texts clash, a certificate is refused, no text uses some rule, a line of a table that is cut or
-/// surveyed can act on the texts that are asked for, or a table that is surveyed or cut has an
-/// opcode that is none of liblouis' (one that is surveyed also where no line defines a character),
-/// 2 where the words, a file, the table, a text, the input or the output had a fault, and 3 where
-/// memory ran out, a search decided nothing, or a table is too wide for a certificate of version 1.
-/// The first of the words is the program's name.
+/// Does what the words ask for, and answers the exit status, 0 to 3: 1 only for a clash, a list, a
+/// refusal, or a suspect survey or cut. It is 0 where the work was done, 1 where two texts clash, a
+/// certificate is refused, no text uses some rule, a rule is likely to be a slip, a line of a table
+/// that is cut or surveyed can act on the texts that are asked for, or a table that is surveyed or
+/// cut has an opcode that is none of liblouis' (one that is surveyed also where no line defines a
+/// character), 2 where the words, a file, the table, a text, the input or the output had a fault,
+/// and 3 where memory ran out, a search decided nothing, or a table is too wide for a certificate
+/// of version 1. The first of the words is the program's name.
 ///
 /// Standard output gets the translation, what was found of two texts, of a certificate, by a search
 /// or by a survey, the steps of a text, the rules of a table or those of them that no text uses,

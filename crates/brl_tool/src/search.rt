@@ -40,16 +40,17 @@ pub struct SearchedFiles<'a> {
     pub accept: Option<&'a str>,
 }
 
-/// Searches the table of a file, for texts of the characters of which the option says that they are
-/// made, until more than `limit` states or pairs are found, but for what another file excuses: the
-/// pairs of rules that it names are accepted, and the steps of characters of its sets may be
-/// exchanged. The answer is a
-/// certificate for the file at `out`, with its numbers; or the report of a clash, at another pair
-/// of rules; or why some steps can't be exchanged; or the numbers at which the limit was passed.
+/// Searches the table of a file, as `search_table` does, with what another file excuses; a
+/// certificate is valid, and its file none that is read. The texts are those of the characters of
+/// which the option says that they are made. The pairs of rules that the other file names are
+/// accepted, and the steps of characters of its sets may be exchanged. The answer is a certificate
+/// for the file at `out`, with its numbers; or the report of a clash, at another pair of rules; or
+/// why some steps can't be exchanged; or the numbers at which more than `limit` states or pairs
+/// were found.
 ///
 /// The option is parsed first. `WouldOverwrite` where `out` names a file that is read, `NotDefined`
-/// where the table lacks characters of the option. What is excused is read after that.
-/// Before the search standard error gets the table's notices, and then reports of progress.
+/// where the table lacks characters of the option. What is excused is read after that. Before the
+/// search standard error gets the table's notices, and then reports of progress.
 pub fn search_by_words<F: Files, E: Write + Progress>(
     alloc: Global,
     files: &mut F,

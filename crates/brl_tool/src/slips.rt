@@ -8,9 +8,9 @@ use brl_lines::{Loaded, Source};
 use brl_slips::{Findings, find_slips, read_lexicon, slips_columns, slips_text};
 use std::alloc::{AllocError, Global};
 
-/// Lists the rules that look like typing errors of the table whose file is at a path, in columns
-/// where that is asked for. Lines that aren't read are passed over. The status is that of a
-/// refutation where some are listed.
+/// Lists the rules of a file's table that look like typing errors, or the fault; the status is 1
+/// exactly where some are shown, or twins. They are in columns where that is asked for. Lines that
+/// aren't read are passed over.
 pub fn list_slips_by_file<S: Source>(
     alloc: Global,
     source: &mut S,

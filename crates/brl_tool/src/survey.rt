@@ -48,13 +48,14 @@ struct Manner<'a> {
     only: Option<&'a Alphabet>,
 }
 
-/// Surveys tables. The answer has the report of each table that can be loaded, after a line that
-/// names it where there are several, and then a line that there is no verdict. A report begins with
-/// the hyphenation dictionaries that were skipped; one that is to be brief has neither these nor
-/// the faults. Standard error gets the notices and remarks of each table whose lines are all read,
-/// and a line for each that can't be loaded; then the status is that of a fault. Else it is that of
-/// a refutation where a table has a line whose opcode is none of liblouis', or no line that defines
-/// a character.
+/// Surveys the tables that can be loaded, or lists their lines that can act; the status is 1
+/// exactly where one is suspect. The answer has the report of each table that can be loaded, after
+/// a line that names it where there are several, and then a line that there is no verdict. A report
+/// begins with the hyphenation dictionaries that were skipped; one that is to be brief has neither
+/// these nor the faults. Standard error gets the notices and remarks of each table whose lines are
+/// all read, and a line for each that can't be loaded; then the status is that of a fault. Else it
+/// is that of a refutation where a table has a line whose opcode is none of liblouis', or no line
+/// that defines a character.
 ///
 /// Where characters are given, a table's report is that of its cut with lines rewritten, which is
 /// written nowhere, and of the lines of the table that can act on texts of these characters. The

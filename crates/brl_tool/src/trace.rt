@@ -13,9 +13,9 @@ use brl_lines::Source;
 use brl_report::trace_report;
 use std::alloc::Global;
 
-/// Traces the text of a word by the table whose file is at a path. With escapes it is read as an
-/// operand of a table, and with lines each step is followed by the table's lines by which it is
-/// made. The text is read before the table. The answer is the report of the text.
+/// Traces the text of a word by the table of a file: the report of the text, or the fault. With
+/// escapes it is read as an operand of a table, and with lines each step is followed by the table's
+/// lines by which it is made. The text is read before the table.
 pub fn trace_by_word<S: Source>(
     alloc: Global,
     source: &mut S,

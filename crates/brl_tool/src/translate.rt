@@ -21,9 +21,10 @@ pub struct Translation<'a> {
     pub lacking: bool,
 }
 
-/// Translates the input, line by line. Answers the lines that name the characters that are lacking,
-/// in the order of their first uses; the text is empty where there are none, or where these aren't
-/// to be listed: then the first ends the work.
+/// Translates the input line by line by the table of a file, and answers the lines that name
+/// lacking characters; without a table nothing. Lacking characters are in the order of their first
+/// uses; the text is empty where there are none, or where these aren't to be listed: then the first
+/// ends the work.
 pub fn translate_by_file<S: Source, R: Input, W: Output>(
     alloc: Global,
     source: &mut S,

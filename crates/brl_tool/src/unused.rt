@@ -21,8 +21,8 @@ use brl_without::{Alphabet, LeftOut};
 use std::alloc::{AllocError, Global};
 use std::io::Write;
 
-/// Lists the rules of the table whose file is at a path that no text uses which is made of the
-/// characters that the option says. The option is parsed first. `NotDefined` where the table lacks
+/// Lists the rules of a file's table that no text made of the characters of the option uses; or
+/// answers the limit or the fault. The option is parsed first. `NotDefined` where the table lacks
 /// some of them. Before the work standard error hears of it where no line defines a character, and
 /// then gets reports of its progress.
 pub fn list_unused_by_words<S: Source, E: Write + Progress>(

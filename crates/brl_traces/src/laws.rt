@@ -10,9 +10,9 @@ ghost use Rattle.brl_without.specs.Without.{without};
 
 use brl_rules::{Table, choice_laws, translation_laws};
 
-/// The steps of each path of a table's dues machine are, one by one, those of the trace of what it
-/// reads: the same rules, for the same characters, with the same cells. So where two paths diverge,
-/// the traces of what they read do, at the same pair of rules.
+/// The steps of each path of a table's dues machine are those of the trace of what it reads, so
+/// traces diverge where paths do. One by one they have the same rules, characters and cells, so
+/// traces diverge at the same pair of rules.
 pub fn dues_trace_law(table: &Table)
     ensures steps { PathsAreTraces table.now }
     ensures diverge { TracesDivergeAsPaths table.now }
@@ -22,10 +22,11 @@ pub fn dues_trace_law(table: &Table)
     table.law();
 }
 
-/// Where the dues machine of a table is unambiguous but for some pairs of rules, any two texts of
-/// the table that are translated to the same cells are equal, or their traces begin with the same
-/// steps and go on with two different ones of one of these pairs. Where the machine without some
-/// characters is so, this holds of the texts that use none of them.
+/// Where a table's dues machine is unambiguous but for some pairs of rules, the traces of texts
+/// that clash diverge at one of these pairs. So any two texts of the table that are translated to
+/// the same cells are equal, or their traces begin with the same steps and go on with two different
+/// ones of one of these pairs. Where the machine without some characters is so, this holds of the
+/// texts that use none of them.
 pub fn dues_divergence_law(table: &Table)
     ensures texts { (rules : List (ℕ × ℕ)) → IsUnambiguousBut rules (dues_machine table.now) → ClashesDivergeAt rules table.now }
     ensures without { (left_out : List ℕ) (rules : List (ℕ × ℕ)) → IsUnambiguousBut rules (without left_out (dues_machine table.now)) →
@@ -34,9 +35,10 @@ pub fn dues_divergence_law(table: &Table)
     dues_trace_law(table);
 }
 
-/// Where any two texts with the same translation have paths of the dues machine without some
-/// characters that are the same but for exchanges, to their ends or up to a place where they
-/// diverge at some pairs of rules, so are the traces of these texts.
+/// Where texts with the same cells have paths that differ by exchanges, up to some pairs of rules
+/// at most, so do the traces of these texts. The paths are those of the dues machine without some
+/// characters. Traces are the same but for exchanges, to their ends or up to a place where they
+/// diverge at one of the pairs.
 pub fn dues_exchange_law(table: &Table)
     ensures { (left_out : List ℕ) (exchanged rules : List (ℕ × ℕ)) →
         TextsDifferByExchangesBut exchanged rules (without left_out (dues_machine table.now)) → TextsAgreeBut left_out exchanged rules table.now }

@@ -37,8 +37,8 @@ impl<'a> Model for Window<'a> {
 }
 
 impl<'a> Window<'a> {
-    /// The window machine of a table, whose texts and translation are the table's. No memory is
-    /// allocated.
+    /// The window machine of a table, whose texts and translation are the table's; `TooWide` where
+    /// its start would have too many steps. No memory is allocated.
     ///
     /// `TooWide` exactly where its start would have more than 10,000 steps: `n + n^2 + .. + n^k`
     /// for `n` characters, where `k` is the length of the longest rule (1 where there is none) plus

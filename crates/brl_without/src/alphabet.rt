@@ -33,9 +33,10 @@ pub enum Alphabet {
 }
 
 impl Alphabet {
-    /// The characters of a table that are left out: in the order in which they were given, or for
-    /// spans in that of their first definitions. The fault names the first character that is to be
-    /// left out and that the table doesn't define, or the first span in which it defines none.
+    /// The characters of a table that are left out, if it has those that are asked for; else the
+    /// fault names the first that it lacks. They are in the order in which they were given, or for
+    /// spans in that of their first definitions. The table must define each character that is to be
+    /// left out, or one of each span.
     pub fn left_out(&self, alloc: Global, table: &Table) -> Result<LeftOut, Failure<Undefined>>
         ensures left_out { IfOk result (λ left_out. left_out ≡ left_out_by table.now (alphabet_view self.now)) }
         ensures all { OnOk result (HasAll table.now (alphabet_view self.now)) }

@@ -16,8 +16,8 @@ pub fn exact_without_law<M: Machine>(machine: &M)
     ensures { (left_out : List ℕ) → IsExact (M.behaviour machine.now) → IsExact (without left_out (M.behaviour machine.now)) }
 {}
 
-/// A machine without some characters is unambiguous exactly where any two of the machine's texts
-/// that use none of them, and that are translated to the same cells, are equal.
+/// Without some characters a machine is unambiguous exactly where any two of its texts that use
+/// none of them, and have the same cells, are equal.
 pub fn unambiguous_without_law<M: Machine>(machine: &M)
     ensures { (left_out : List ℕ) →
         IsUnambiguous (without left_out (M.behaviour machine.now)) ↔ IsUnambiguousFor left_out (M.behaviour machine.now) }

@@ -26,8 +26,8 @@ pub enum Undefined {
     Only(String),
 }
 
-/// Checks that the table defines each of the characters. The fault names the first that it doesn't
-/// define.
+/// Checks that the table defines each of the characters; else the fault names the first that it
+/// doesn't define.
 pub fn check_defined(
     alloc: Global,
     table: &Table,
