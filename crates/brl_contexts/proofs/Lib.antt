@@ -1,1 +1,13 @@
 pub mod Found
+pub mod PastForms
+pub mod ByForm
+pub mod Orders
+pub mod Own
+pub mod Steps
+pub mod ChangesLaws
+pub mod Repeating
+pub mod PushChange
+pub mod Groups
+pub mod PushChanges
+pub mod Kept
+pub mod EdgesIn

@@ -1,1 +1,5 @@
 pub mod Met
+pub mod Named
+pub mod Forms
+pub mod Changes
+pub mod Contexts

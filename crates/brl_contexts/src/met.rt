@@ -1,7 +1,8 @@
 //! Which forms the bars of a state meet.
 ghost use Rattle.std.specs.Prelude.{◌≡◌, ◌<◌, ◌++◌, All, IfOk, OnOk, length, map};
 ghost use Rattle.std.specs.List.{range_with_len};
-ghost use Rattle.brl_contexts.specs.Met.{met_at, met_in};
+ghost use Rattle.brl_contexts.specs.Forms.{HasAll};
+ghost use Rattle.brl_contexts.specs.Met.{AreBarsAt, AreMetByForm, met_at, met_in};
 ghost use Rattle.brl_pairs.specs.Order.{IsOrderOf, places_of};
 
 use brl_cells::Chars;
@@ -85,4 +86,37 @@ fn push_from(
         found.push(Met { form, bar })?;
     }
     Ok(())
+}
+
+/// The forms that the bars of a state meet, each with its bars, ascending: by ascending form.
+/// `order` has each form once.
+pub fn met_by_form<B: Based>(
+    alloc: Global,
+    machine: &B,
+    state: &B::State,
+    reads: &[Chars],
+    order: &Order,
+) -> Result<Vec<Met>, AllocError>
+    requires order { IsOrderOf reads.now order.now }
+    requires all { HasAll (length reads.now) order.now.numbers.items }
+    ensures { IfOk result (λ found. AreMetByForm ((B.sharing machine.now).bars state.now) reads.now found.items) }
+{
+    let mut found = all_met(alloc, machine, state, reads, order)?;
+    found.sort_by_key(|met| met.form)?;
+    Ok(found)
+}
+
+/// The bars that meet the form at a place, where its first one is.
+pub fn bars_at(alloc: Global, met: &[Met], from: usize) -> Result<Vec<u32>, AllocError>
+    requires within { from < length met.now }
+    ensures { IfOk result (λ bars. AreBarsAt met.now from bars.items) }
+{
+    let form = met[from].form;
+    let mut bars = Vec::new(alloc);
+    let mut next = from;
+    while next < met.len() && met[next].form == form {
+        bars.push(met[next].bar)?;
+        next += 1;
+    }
+    Ok(bars)
 }
