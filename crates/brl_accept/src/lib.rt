@@ -4,6 +4,7 @@
 //! `judge` reads a table and a certificate and checks the one against the other. `judge_table` does
 //! so for a table that was read before, for the texts that don't use some characters, but for what
 //! is excused. `Accepted` has the numbers of states and pairs, `JudgeFault` is the first refusal.
+//! `more_accepted_law` states that more may be excused.
 //!
 //! From files whose `t.ctb` has the lines `letter a 1` and `letter b 12`:
 //!
@@ -19,7 +20,9 @@
 
 mod judge_fault;
 mod judge_files;
+mod laws;
 
 pub use brl_closure::{AcceptFault, Accepted, accept};
 pub use judge_fault::JudgeFault;
 pub use judge_files::{judge, judge_table};
+pub use laws::more_accepted_law;

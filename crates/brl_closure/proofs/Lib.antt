@@ -29,6 +29,9 @@ pub mod Reached
 pub mod TwoRuns
 pub mod Members
 pub mod Listed
+pub mod InClosed
+pub mod MoreExcused
+pub mod Numbering
 pub mod Listing
 pub mod Fresh
 pub mod KnownLists

@@ -1,10 +1,10 @@
 -- What a search decides where each of the machine's paths to a final state is a translation.
 -- These are this project's own choice.
-use Rattle.std.specs.Prelude.{◌≡◌, ◌≢◌, ℕ, IsTrue, List, ◌++◌, map}
+use Rattle.std.specs.Prelude.{◌≡◌, ◌≢◌, ℕ, IsTrue, List, ◌++◌, Option, map}
 use Rattle.std.specs.List.{Contains, flat_map}
 use Rattle.brl_pairs.specs.Body.{BodyView}
 use Rattle.brl_pairs.specs.Sets.{sets_of}
-use Rattle.brl_pairs.specs.Pairs.{HasPair, Sets}
+use Rattle.brl_pairs.specs.Pairs.{HasPair, IsClosed, Sets, numbered}
 use Rattle.brl_pairs.specs.Runs.{Behaviour, IsListed, Reaches, cells_of}
 use Rattle.brl_pairs.specs.declared.step.Pair.{Pair}
 use Rattle.brl_pairs.specs.declared.step.Step.{Step}
@@ -35,6 +35,10 @@ HasClash m = (left : List ℕ) × (right : List ℕ) × IsClashOf m left right
 -- the reached states and the reached pairs
 abbrev pub reached_sets : {S : Type 0} → Behaviour S → Sets S
 reached_sets m = record { has_state = Reached m; has_pair = ReachedPair m }
+
+-- some sets of states and of pairs are closed; they have numbers, finitely many or not
+abbrev pub HasClosedSets : {S : Type 0} → Behaviour S → Type 0
+HasClosedSets {S} m = (states : ℕ → Option S) × (pairs : ℕ → Option (Pair S)) × IsClosed m (numbered states pairs)
 
 -- a body lists just the reached states and just the reached pairs, each pair in at least one order
 -- where its lead is empty

@@ -13,6 +13,7 @@ mod search;
 pub use check::{AcceptFault, Accepted, accept, accept_up_to};
 pub use search::{
     Finder, KnownSteps, Origins, Outcome, PairOrigin, Search, StateOrigin, Stop, Texts, Trail,
-    clash_law, just_reached_law, lead_law, no_limit_law, reached_closed_law, reached_listed_law,
-    same_cells_law, search_machine, short_lead_law, two_ends_law, two_runs_law,
+    clash_law, in_closed_law, just_reached_law, lead_law, more_excused_law, no_limit_law,
+    reached_closed_law, reached_listed_law, same_cells_law, search_machine, short_lead_law,
+    two_ends_law, two_runs_law,
 };

@@ -26,8 +26,9 @@ pub use explore::{Search, search_machine};
 pub use finder::{Finder, Stop};
 pub use known_steps::KnownSteps;
 pub use laws::{
-    clash_law, just_reached_law, lead_law, no_limit_law, reached_closed_law, reached_listed_law,
-    same_cells_law, short_lead_law, two_ends_law, two_runs_law,
+    clash_law, in_closed_law, just_reached_law, lead_law, more_excused_law, no_limit_law,
+    reached_closed_law, reached_listed_law, same_cells_law, short_lead_law, two_ends_law,
+    two_runs_law,
 };
 pub use outcome::Outcome;
 pub use texts::Texts;

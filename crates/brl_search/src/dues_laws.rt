@@ -1,6 +1,6 @@
 //! What a table's dues machine reaches. Each law is the contract of a function that
 //! does nothing.
-ghost use Rattle.std.specs.Prelude.{length};
+ghost use Rattle.std.specs.Prelude.{◌≤◌, ◌↔◌, ℕ, List, length};
 ghost use Rattle.std.specs.List.{Contains};
 ghost use Rattle.brl_pairs.specs.Body.{BodyView};
 ghost use Rattle.brl_pairs.specs.Sets.{sets_of};
@@ -9,11 +9,17 @@ ghost use Rattle.brl_dues.specs.Steps.{dues_machine};
 ghost use Rattle.brl_states.specs.declared.due.Due.{Due as DueValue};
 ghost use Rattle.brl_states.specs.declared.dues_state.DuesState.{DuesState as StateValue};
 ghost use Rattle.brl_pairs.specs.Pairs.{IsClosed};
+ghost use Rattle.brl_pairs.specs.declared.excused.Excused.{Excused as ExcusedValue};
 ghost use Rattle.brl_pairs.specs.declared.step.Pair.{Pair as PairValue};
-ghost use Rattle.brl_closure.specs.Deciding.{ListsJustReached, all_pairs, reached_sets};
+ghost use Rattle.brl_closure.specs.Deciding.{HasClosedSets, ListsJustReached, all_pairs, reached_sets};
+ghost use Rattle.brl_closure.specs.Excusing.{IsClosedBody};
 ghost use Rattle.brl_closure.specs.Reached.{AtMost, Reached, ReachedPair, SamePair, SameState};
 ghost use Rattle.brl_rules.specs.TableView.{TableView};
 ghost use Rattle.brl_rules.specs.Translation.{IsUnambiguous};
+ghost use Rattle.brl_search.specs.Scoped.{IsSearched};
+ghost use Rattle.brl_search.specs.declared.scoped.Searched.TheVariants as searches;
+ghost use Rattle.brl_search.specs.declared.table_search.Found.TheVariants as finds;
+ghost use Rattle.brl_without.specs.Without.{without};
 
 use brl_closure::{just_reached_law, reached_closed_law};
 use brl_dues::{Dues, exact_law, finite_law};
@@ -37,22 +43,38 @@ pub fn dues_reached_law()
     finite_law();
 }
 
-/// For every unambiguous table, what its dues machine reaches is closed.
+/// A table is unambiguous exactly where what its dues machine reaches is closed, and exactly where
+/// some sets are closed.
 pub fn dues_closed_law(alloc: Global, table: &Table)
-    ensures { IsUnambiguous table.now → IsClosed (dues_machine table.now) (reached_sets (dues_machine table.now)) }
+    ensures reached { IsUnambiguous table.now ↔ IsClosed (dues_machine table.now) (reached_sets (dues_machine table.now)) }
+    ensures some { IsUnambiguous table.now ↔ HasClosedSets (dues_machine table.now) }
 {
     exact_law(table);
     let dues = Dues::new(alloc, table);
     reached_closed_law(&dues);
 }
 
-/// For every unambiguous table, any lists of just the states that its dues machine reaches and, in
-/// at least one order, just the pairs are closed: they are a certificate.
+/// For any lists of just the states that its dues machine reaches and, in at least one order, just
+/// the pairs: a table is unambiguous exactly where they are closed, and so are a certificate.
 pub fn dues_certificate_law(alloc: Global, table: &Table)
-    ensures { IsUnambiguous table.now → (body : BodyView StateValue) → ListsJustReached (dues_machine table.now) body →
-        IsClosed (dues_machine table.now) (sets_of body) }
+    ensures { (body : BodyView StateValue) → ListsJustReached (dues_machine table.now) body →
+        IsUnambiguous table.now ↔ IsClosed (dues_machine table.now) (sets_of body) }
 {
     exact_law(table);
     let dues = Dues::new(alloc, table);
     just_reached_law(&dues);
 }
+
+/// No certificate of version 2 or 3 lists fewer states than the table's dues machine reaches,
+/// whatever is excused. So where a search passes its limit with some number of states, each such
+/// certificate without the same characters has at least as many.
+pub fn fewest_states_law()
+    ensures closed { (left_out : List ℕ) (t : TableView) (body : BodyView StateValue) → IsClosed (without left_out (dues_machine t)) (sets_of body) →
+        AtMost (length body.states) SameState (Reached (without left_out (dues_machine t))) }
+    ensures up_to { (left_out : List ℕ) (excused : ExcusedValue) (t : TableView) (body : BodyView StateValue) →
+        IsClosedBody (without left_out (dues_machine t)) excused body →
+        AtMost (length body.states) SameState (Reached (without left_out (dues_machine t))) }
+    ensures limit { (left_out : List ℕ) (excused more : ExcusedValue) (t : TableView) (limit states pairs : ℕ) (body : BodyView StateValue) →
+        IsSearched left_out excused t limit (searches.Found (finds.Limit states pairs)) →
+        IsClosedBody (without left_out (dues_machine t)) more body → states ≤ length body.states }
+{}

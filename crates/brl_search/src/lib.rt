@@ -9,8 +9,8 @@
 //!   rules is given, while `clash_at` says that their traces diverge at it.
 //! - `unused_rules` lists the rules of a table that no text uses.
 //! - `seed_of` is the seed by which the search hashes what it finds.
-//! - The laws state what is reached of the table's dues machine, and that there is one whole list
-//!   of clashes.
+//! - The laws state what is reached of the table's dues machine, that no certificate has fewer
+//!   states, and that there is one whole list of clashes.
 //!
 //! By a table of the lines `letter a 1` and `letter b 12`, with at most a million states and as
 //! many pairs:
@@ -38,7 +38,7 @@ mod table_search;
 mod texts;
 mod unused;
 
-pub use dues_laws::{dues_certificate_law, dues_closed_law, dues_reached_law};
+pub use dues_laws::{dues_certificate_law, dues_closed_law, dues_reached_law, fewest_states_law};
 pub use list_laws::{accepted_list_law, whole_list_law};
 pub use scoped::{Searched, search_table};
 pub use seed::seed_of;

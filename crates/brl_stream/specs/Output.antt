@@ -92,6 +92,10 @@ verdict t form input = verdict_within (output_of t form) most_input input
 unfoldable pub verdict_of_defined : TableView → Form → List ℕ → List LineResult
 verdict_of_defined t form input = verdict_within (output_by true t form) most_input input
 
+-- the bytes are the output of an input whose lines all have one: the outputs of these, joined
+abbrev pub IsOutput : TableView → Form → List ℕ → List ℕ → Type 0
+IsOutput t form input output = (outputs : List (List ℕ)) × (verdict t form input ≡ map Ok outputs) × (output ≡ concat outputs)
+
 -- a fault at the line with this number
 abbrev pub at_line : ℕ → LineFault → StreamFault
 at_line n fault = record { line = n; fault = fault }

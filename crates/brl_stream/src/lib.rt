@@ -2,7 +2,8 @@
 //! `Output` are the reader and the writer, which `Counting` makes of those of the standard library;
 //! `translate_lines` does the work. `StreamFault` is the first fault, with its line, from 1.
 //! `translate_defined_lines` passes over the lines with a character that the table doesn't define,
-//! and lists these characters.
+//! and lists these characters. By `same_output_law` the output of an unambiguous table determines
+//! the lines.
 //!
 //! By a table of the lines `letter a 1` and `letter b 12`:
 //!
@@ -21,6 +22,7 @@ mod buffer;
 mod device;
 mod fault;
 mod lacking;
+mod laws;
 mod line;
 mod output;
 mod stream;
@@ -29,4 +31,5 @@ pub use brl_cells::Form;
 pub use device::{Counting, Failed, Input, Output};
 pub use fault::{LineFault, StreamFault};
 pub use lacking::Lacking;
+pub use laws::same_output_law;
 pub use stream::{translate_defined_lines, translate_lines};

@@ -1,15 +1,17 @@
 //! Laws of the search, most of them over an exact machine: each of its paths to a final state is a
 //! translation, and each text has one path. Each law is the contract of a function that does
 //! nothing.
-ghost use Rattle.std.specs.Prelude.{◌≡◌, ◌≤◌, ℕ, List, length};
+ghost use Rattle.std.specs.Prelude.{◌≡◌, ◌≤◌, ◌↔◌, ℕ, List, Option, length};
 ghost use Rattle.std.specs.List.{Contains};
 ghost use Rattle.brl_pairs.specs.Body.{BodyView};
 ghost use Rattle.brl_pairs.specs.Sets.{sets_of};
-ghost use Rattle.brl_pairs.specs.Pairs.{IsClosed};
+ghost use Rattle.brl_pairs.specs.Pairs.{IsClosed, numbered};
 ghost use Rattle.brl_pairs.specs.Runs.{IsExact, IsUnambiguous};
+ghost use Rattle.brl_pairs.specs.declared.excused.Excused.{Excused as ExcusedValue};
 ghost use Rattle.brl_pairs.specs.declared.step.Pair.{Pair as PairValue};
 ghost use Rattle.brl_closure.specs.Answers.{AreTwoPaths, HasTwoEndsReached, IsLimit};
-ghost use Rattle.brl_closure.specs.Deciding.{IsClashOf, HasClash, HasLeadOfStep, HasTwoRuns, HoldsSteps, ListsJustReached, all_pairs, reached_sets};
+ghost use Rattle.brl_closure.specs.Deciding.{HasClosedSets, IsClashOf, HasClash, HasLeadOfStep, HasTwoRuns, HoldsSteps, ListsJustReached, all_pairs, reached_sets};
+ghost use Rattle.brl_closure.specs.Excusing.{ExcusesAll, IsClosedBody};
 ghost use Rattle.brl_closure.specs.Reached.{AtMost, Reached, ReachedPair, SamePair, SameState};
 ghost use Rattle.brl_rules.specs.Text.{is_text};
 ghost use Rattle.brl_rules.specs.Translation.{IsClash, translation};
@@ -48,22 +50,42 @@ pub fn two_ends_law<M: Machine>(machine: &M)
     let _ = machine.start();
 }
 
-/// Where an exact machine is unambiguous, what is reached is closed.
+/// An exact machine is unambiguous exactly where what is reached is closed, and exactly where some
+/// sets are closed.
 pub fn reached_closed_law<M: Machine>(machine: &M)
-    ensures { IsExact (M.behaviour machine.now) → IsUnambiguous (M.behaviour machine.now) →
-        IsClosed (M.behaviour machine.now) (reached_sets (M.behaviour machine.now)) }
+    ensures reached { IsExact (M.behaviour machine.now) →
+        IsUnambiguous (M.behaviour machine.now) ↔ IsClosed (M.behaviour machine.now) (reached_sets (M.behaviour machine.now)) }
+    ensures some { IsExact (M.behaviour machine.now) →
+        IsUnambiguous (M.behaviour machine.now) ↔ HasClosedSets (M.behaviour machine.now) }
 {
     let _ = machine.start();
 }
 
-/// Where an exact machine is unambiguous, any lists of just the reached states and, in at least one
-/// order, just the reached pairs are closed: they are a certificate.
+/// For any lists of just the reached states and, in at least one order, just the reached pairs: an
+/// exact machine is unambiguous exactly where they are closed, and so are a certificate.
 pub fn just_reached_law<M: Machine>(machine: &M)
-    ensures { IsExact (M.behaviour machine.now) → IsUnambiguous (M.behaviour machine.now) → (body : BodyView M.State) →
-        ListsJustReached (M.behaviour machine.now) body → IsClosed (M.behaviour machine.now) (sets_of body) }
+    ensures { IsExact (M.behaviour machine.now) → (body : BodyView M.State) → ListsJustReached (M.behaviour machine.now) body →
+        IsUnambiguous (M.behaviour machine.now) ↔ IsClosed (M.behaviour machine.now) (sets_of body) }
 {
     let _ = machine.start();
 }
+
+/// Closed sets have each reached state, so there are at least as many states in a closed body as
+/// are reached.
+pub fn in_closed_law<M: Machine>(machine: &M)
+    ensures states { (states : ℕ → Option M.State) (pairs : ℕ → Option (PairValue M.State)) →
+        IsClosed (M.behaviour machine.now) (numbered states pairs) →
+        (s : M.State) → Reached (M.behaviour machine.now) s → (numbered states pairs).has_state s }
+    ensures few_states { (body : BodyView M.State) → IsClosed (M.behaviour machine.now) (sets_of body) →
+        AtMost (length body.states) SameState (Reached (M.behaviour machine.now)) }
+{}
+
+/// What is excused may grow: states and pairs that are closed but for what is excused are closed
+/// but for more, too.
+pub fn more_excused_law<M: Machine>(machine: &M)
+    ensures { (excused more : ExcusedValue) (body : BodyView M.State) → ExcusesAll more excused →
+        IsClosedBody (M.behaviour machine.now) excused body → IsClosedBody (M.behaviour machine.now) more body }
+{}
 
 /// Where at most `limit` states and at most `limit` pairs are reached, a search doesn't come to its
 /// limit.

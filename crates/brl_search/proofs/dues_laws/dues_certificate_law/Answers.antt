@@ -6,10 +6,10 @@ use Rattle.brl_pairs.specs.Pairs.{IsClosed}
 use Rattle.brl_pairs.specs.Runs.{IsExact, IsUnambiguous}
 use Rattle.brl_closure.specs.Deciding.{ListsJustReached}
 use Rattle.brl_rules.specs.TableView.{TableView}
-use Rattle.std.proofs.Common.{subst}
+use Rattle.std.proofs.Common.{◌↔◌, subst}
 use Rattle.brl_search.proofs.dues_laws.dues_certificate_law.Goals as goal
 
 pub returns : goal.returns
 returns c =
-    subst (λ (t : TableView). IsExact (dues_machine t) → IsUnambiguous (dues_machine t) → (body : BodyView DuesState) → ListsJustReached (dues_machine t) body → IsClosed (dues_machine t) (sets_of body))
+    subst (λ (t : TableView). IsExact (dues_machine t) → (body : BodyView DuesState) → ListsJustReached (dues_machine t) body → IsUnambiguous (dues_machine t) ↔ IsClosed (dues_machine t) (sets_of body))
     c.new-dues.ensures.table c.just_reached_law.ensures c.exact_law.ensures
