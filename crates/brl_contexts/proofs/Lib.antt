@@ -1,3 +1,4 @@
+pub mod SameSteps
 pub mod Found
 pub mod PastForms
 pub mod ByForm

@@ -7,7 +7,7 @@ use Rattle.brl_pairs.specs.Based.{Sharing, firsts, is_same, step_past, with_more
 use Rattle.brl_pairs.specs.declared.based.Past.{Past}
 use Rattle.brl_pairs.specs.declared.based.Past.TheVariants.{Broken, Same, More}
 use Rattle.brl_pairs.specs.declared.step.Step.{Step}
-use Rattle.brl_pairs.proofs.BasedLaws.{same_step}
+use Rattle.brl_contexts.proofs.SameSteps.{same_step}
 use Rattle.brl_pairs.proofs.Lists.{take-got}
 
 module _ {S : Type 0} (eq : S → S → Bool) (same : (a b : S) → eq a b ≡ true → a ≡ b) where

@@ -17,7 +17,7 @@ use Rattle.brl_pairs.specs.Sorted.{or_none}
 use Rattle.brl_pairs.specs.declared.based.Past.TheVariants.{More}
 use Rattle.brl_pairs.specs.declared.edge.ListedEdge.{ListedEdge}
 use Rattle.brl_pairs.specs.declared.step.Step.{Step}
-use Rattle.brl_pairs.proofs.BasedLaws.{alone}
+use Rattle.brl_contexts.proofs.SameSteps.{alone}
 use Rattle.brl_pairs.proofs.Listing.{IsIn}
 use Rattle.brl_pairs.proofs.Lists.{inside, mapped_at, same_place}
 
@@ -96,7 +96,7 @@ module _ {S : Type 0} (eq : S → S → Bool) (same : (a b : S) → eq a b ≡ t
   by_first : (j : ℕ) (y : Step S) → j < k → slice_get (m.steps base) j ≡ Some y → IsIn z (own_step h s (m.steps base) eq j y) → IsIn z (step_past h s y)
       → (o : Option (Option ℕ)) → change_of changes j ≡ o → IsChanged h s named y o (own_step h s (m.steps base) eq j y) → IsRepeated named.cells forms k number changes
   by_first j y less y_at first own None e changed =
-      absurd (no_two eq same itself m h laws keeps s base is_base j k y x z less y_at at (alone eq same m h keeps s y z own) x_is (inr changed.1))
+      absurd (no_two eq same itself m h laws keeps s base is_base j k y x z less y_at at (alone h s y z own) x_is (inr changed.1))
   by_first j y less y_at first own (Some None) e changed = absurd (subst (IsIn z) changed first)
   by_first j y less y_at first own (Some (Some n)) e changed =
       let next = changed.0 in

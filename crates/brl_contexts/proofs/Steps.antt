@@ -10,7 +10,7 @@ use Rattle.brl_pairs.specs.Runs.{Behaviour, KeepsLaws}
 use Rattle.brl_pairs.specs.declared.based.Past.{Past}
 use Rattle.brl_pairs.specs.declared.based.Past.TheVariants.{Broken, Same, More}
 use Rattle.brl_pairs.specs.declared.step.Step.{Step}
-use Rattle.brl_pairs.proofs.BasedLaws.{alone, found_in}
+use Rattle.brl_contexts.proofs.SameSteps.{alone, found_in}
 use Rattle.brl_pairs.proofs.Lists.{inside}
 use Rattle.brl_pairs.proofs.Listing.{IsIn, at-in, from-flat_map, in-append, in-at, in-flat_map}
 
@@ -107,7 +107,7 @@ module _ {S : Type 0} (eq : S → S → Bool) (same : (a b : S) → eq a b ≡ t
         own = opened_step x Same through free
 
         by : (b : Bool) → any_before k x ≡ b → own_step h s steps eq k x ≡ x ∷ []
-        by true e = absurd (let y = from_before k x e in no_two y.0 k y.1 x x y.2 y.3 at (alone eq same m h keeps s y.1 x y.4) own (inl free))
+        by true e = absurd (let y = from_before k x e in no_two y.0 k y.1 x x y.2 y.3 at (alone h s y.1 x y.4) own (inl free))
         by false e = own_by k x x false own e
 
     pub broken : (k : ℕ) (x : Step S) → h.opens s (h.gate x.reads) ≡ true → h.past s x.reads x.next ≡ Broken → own_step h s steps eq k x ≡ []

@@ -15,7 +15,7 @@ use Rattle.brl_pairs.proofs.Listing.{IsIn, at-in, from-flat_map, in-append, in-a
 
 module _ {S : Type 0} (eq : S → S → Bool) (same : (a b : S) → eq a b ≡ true → a ≡ b) where
   -- steps that are the same are one
-  pub same_step : (x y : Step S) → is_same eq x y ≡ true → x ≡ y
+  same_step : (x y : Step S) → is_same eq x y ≡ true → x ≡ y
   same_step x y h =
       let three = first_so ((nat_eq x.rule y.rule && pointwise nat_eq x.reads y.reads) && pointwise nat_eq x.cells y.cells) (eq x.next y.next) h in
       let two = first_so (nat_eq x.rule y.rule && pointwise nat_eq x.reads y.reads) (pointwise nat_eq x.cells y.cells) three in
@@ -25,7 +25,7 @@ module _ {S : Type 0} (eq : S → S → Bool) (same : (a b : S) → eq a b ≡ t
       let next : x.next ≡ y.next = same x.next y.next (second_so ((nat_eq x.rule y.rule && pointwise nat_eq x.reads y.reads) && pointwise nat_eq x.cells y.cells) (eq x.next y.next) h) in
       λ i. record { rule = rule i; reads = reads i; cells = cells i; next = next i }
 
-  pub found_in : (x : Step S) (steps : List (Step S)) → list_any (is_same eq x) steps ≡ true → IsIn x steps
+  found_in : (x : Step S) (steps : List (Step S)) → list_any (is_same eq x) steps ≡ true → IsIn x steps
   found_in x [] h = cc
   found_in x (y ∷ steps) h = by (is_same eq x y) refl h (found_in x steps)
     where
@@ -72,7 +72,7 @@ module _ {S : Type 0} (eq : S → S → Bool) (same : (a b : S) → eq a b ≡ t
     one_past x z (More more) i = elim i [ inl is ↦ ap (λ (y : Step S). y ∷ []) (sym is) | inr none ↦ absurd none ]
 
     -- it is all that the state has of the step
-    pub alone : (s : S) (x z : Step S) → IsIn z (step_past h s x) → step_past h s x ≡ z ∷ []
+    alone : (s : S) (x z : Step S) → IsIn z (step_past h s x) → step_past h s x ≡ z ∷ []
     alone s x z i = by (h.opens s (h.gate x.reads)) i
       where
         by : (b : Bool) → IsIn z (cond b (with_past h x (h.past s x.reads x.next)) []) → cond b (with_past h x (h.past s x.reads x.next)) [] ≡ z ∷ []
