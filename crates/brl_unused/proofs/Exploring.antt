@@ -1,295 +1,423 @@
--- States are found one by one, with the steps between them. Where all are found, the rules of steps
--- into live states are those that paths take.
-use Rattle.std.proofs.Common.{◌≡◌, ℕ, ◌+◌, ◌<◌, ◌≤◌, Bool, true, false, IsTrue, List, [], ◌∷◌, ◌++◌, length, map, refl, ap, sym, subst, ◌∙◌, arith, Option, None, Some, Contains, slice_get, ◌⊎◌, inl, inr, set}
-use Rattle.std.specs.Prelude.{IfNone, IfSome}
-use Rattle.std.proofs.Math.ListN.{length-set}
-use Rattle.std.proofs.lemmas.List.Elements.{Contains-append_left, Contains-push, Contains-push_cases}
-use Rattle.std.proofs.lemmas.Option.{slice_get_within}
-use Rattle.brl_closure.proofs.Growing.{stays_push, stays_refl, stays_trans}
+-- States are found one by one, with their steps. Where all are found, the rules of edges that lead
+-- to
+-- live states are those that paths take.
+use Rattle.std.proofs.Common.{◌≡◌, ℕ, zero, suc, ◌+◌, ◌<◌, ◌≤◌, Bool, true, false, IsTrue, List, [], ◌∷◌, ◌++◌, length, map, get_or, refl, ap, sym, subst, ◌∙◌, arith, Some, Contains, slice_get, Option, ◌⊎◌, inl, inr, set, append_assoc}
+use Rattle.std.proofs.lemmas.List.{length-map}
+use Rattle.std.proofs.lemmas.List.Elements.{Contains-append_cases, Contains-append_left, Contains-push, Contains-push_cases}
+use Rattle.std.proofs.lemmas.Option.{get_or_from_slice_get, slice_get_read, slice_get_within}
 use Rattle.brl_closure.proofs.TwoRuns.{path_of}
 use Rattle.brl_closure.specs.Reached.{Reached, start, step}
-use Rattle.brl_closure.specs.SearchView.{Stays}
-use Rattle.brl_pairs.proofs.Listing.{Contains-in, IsIn, at-in, in-Contains}
-use Rattle.brl_pairs.proofs.Lists.{inside, length_push, mapped_at, push_cases, same_place, set_cases}
+use Rattle.brl_contexts.proofs.Kept.{edges_kept}
+use Rattle.brl_contexts.specs.Contexts.{AreContexts, AreEdgesAt, IsEmpty, IsWithin, StillKnows, edges_by, edges_of}
+use Rattle.brl_contexts.specs.declared.contexts.Contexts.{Contexts}
+use Rattle.brl_contexts.specs.declared.contexts.Expanded.{Expanded}
+use Rattle.brl_contexts.specs.declared.contexts.Expanded.TheVariants as steps
+use Rattle.brl_contexts.specs.declared.forms.Forms.{Forms}
+use Rattle.brl_pairs.specs.Based.{Sharing}
+use Rattle.brl_pairs.proofs.Listing.{Contains-in, IsIn, in-Contains}
+use Rattle.brl_pairs.proofs.Lists.{inside, length_push, mapped_at, mapped_from, push_before, push_cases, same_place, set_cases}
+use Rattle.brl_pairs.proofs.Numbered.{contained, place_of}
 use Rattle.brl_pairs.specs.Members.{HaveOneNumber}
 use Rattle.brl_pairs.specs.Runs.{Behaviour, IsListed, IsPath, Reaches}
+use Rattle.brl_pairs.specs.declared.edge.ListedEdge.{ListedEdge}
 use Rattle.brl_pairs.specs.declared.step.Step.{Step}
 use Rattle.brl_unused.proofs.Marked.{mark-kept, mark-there}
-use Rattle.brl_unused.specs.Exploring.{AddsAtMost, AreAllFound, AreFound, AreMarkedBy, Extends, HasTransition, HavePassed, IsExpanded, IsStepOf, Takes}
-use Rattle.brl_unused.specs.Graph.{AreLive, AreWithin, IsLive, final as live_end, step as live_step}
+use Rattle.brl_unused.specs.Exploring.{AddsAtMost, AreFound, AreReached, Enters, HavePassed, IsNothing, MarkSame, MarksAre}
+use Rattle.brl_unused.specs.Graph.{AreLive, HasEdge, IsLive, IsWhole, final as live_end, step as live_step}
+use Rattle.brl_unused.specs.Marking.{AreMarkedBy, TakesBelow}
 use Rattle.brl_unused.specs.Taken.{AreTaken, IsOverLimit, IsTaken}
-use Rattle.brl_unused.specs.declared.graph.Transition.{Transition}
-use Rattle.brl_unused.specs.declared.taken.FoundStates.{FoundStates}
+use Rattle.brl_unused.specs.declared.found.FoundStates.{FoundStates}
 
--- what holds where there is a value, or none
-pub if_some : {X : Type 0} (o : Option X) (P : X → Type 0) (x : X) → IfSome o P → o ≡ Some x → P x
-if_some {X = X} o P x h is = subst (λ (p : Option X). IfSome p P) is h
+-- ---- Lists
 
-pub if_none : {X : Type 0} (o : Option X) (P : Type 0) → IfNone o P → ((x : X) → o ≡ Some x → ⊥) → P
-if_none (Some x) P h other = absurd (other x refl)
-if_none None P h other = h
+pub none_in : {X : Type 0} (xs : List X) → xs ≡ [] → (x : X) → Contains xs x → ⊥
+none_in xs is x one = (let size = ap length is in let within = one.1 in omega (arith, within, size))
 
--- steps that were yielded are taken, and what was found before them is extended
-pub record AreTakenSoFar {S : Type 0} (m : Behaviour S) (limit : ℕ) (start f : FoundStates S) (number : ℕ) (yielded : List (Step S)) : Type 0 where
-  pub found : AreFound m f
-  pub few : length f.states ≤ limit
-  pub extends : Extends start f
-  pub taken : (x : Step S) → Contains yielded x → HasTransition f number x
+none_at : {X : Type 0} (xs : List X) → xs ≡ [] → (k : ℕ) (x : X) → slice_get xs k ≡ Some x → ⊥
+none_at xs is k x at = (let size = ap length is in let within = slice_get_within xs k x at in omega (arith, within, size))
 
--- ---- One more state
+-- what is at a place is there where more follows
+before_more : {X : Type 0} (xs more : List X) (k : ℕ) (x : X) → slice_get xs k ≡ Some x → slice_get (xs ++ more) k ≡ Some x
+before_more [] more k x at = cc
+before_more (y ∷ xs) more zero x at = at
+before_more (y ∷ xs) more (suc k) x at = before_more xs more k x at
 
-module _ {S : Type 0} where
-  pub adds_stays : (old : List S) (state : S) (new : List S) → AddsAtMost old state new → Stays old new
-  adds_stays old state new (inl same) = subst (Stays old) (sym same) (stays_refl old)
-  adds_stays old state new (inr one) = subst (Stays old) (sym one) (stays_push old state)
-
-  pub adds_more : (old : List S) (state : S) (new : List S) → AddsAtMost old state new → length old ≤ length new
-  adds_more old state new (inl same) = (let size = ap length same in omega (arith, size))
-  adds_more old state new (inr one) = (let size = ap length one in omega (arith, size, length_push old state))
-
-  pub adds_by_one : (old : List S) (state : S) (new : List S) → AddsAtMost old state new → length new ≤ length old + 1
-  adds_by_one old state new (inl same) = (let size = ap length same in omega (arith, size))
-  adds_by_one old state new (inr one) = (let size = ap length one in omega (arith, size, length_push old state))
-
-  -- a fact of each state, where one is added that has it
-  pub adds_each : (P : S → Type 0) (old : List S) (state : S) (new : List S) → AddsAtMost old state new → P state → ((k : ℕ) (s : S) → slice_get old k ≡ Some s → P s)
-      → (k : ℕ) (s : S) → slice_get new k ≡ Some s → P s
-  adds_each P old state new (inl same) own each k s at = each k s (subst (λ (xs : List S). slice_get xs k ≡ Some s) same at)
-  adds_each P old state new (inr one) own each k s at = elim (push_cases old state k s (subst (λ (xs : List S). slice_get xs k ≡ Some s) one at)) [
-    | inl early ↦ each k s early
-    | inr last ↦ subst P last.1 own
-  ]
-
-module _ {S : Type 0} (m : Behaviour S) where
-  -- the start is the only state, and there are no transitions
-  pub found_first : (f : FoundStates S) (old : List S) → old ≡ [] → AddsAtMost old m.start f.states → f.transitions.items ≡ [] → AreFound m f
-  found_first f old none adds no_transitions = record {
-    reached = adds_each (Reached m) old m.start f.states adds start (λ k s at. absurd (nothing old none k s at));
-    steps = λ t one. absurd (no_member_of f.transitions.items no_transitions t one);
-  }
-    where
-      nothing : (xs : List S) → xs ≡ [] → (k : ℕ) (s : S) → slice_get xs k ≡ Some s → ⊥
-      nothing xs is k s at = (let within = slice_get_within xs k s at in let size = ap length is in omega (arith, within, size))
-
-      no_member_of : (ts : List Transition) → ts ≡ [] → (t : Transition) → Contains ts t → ⊥
-      no_member_of ts is t one = (let size = ap length is in omega (arith, one.1, size))
-
-  pub first_at : (old new : List S) (n : ℕ) → old ≡ [] → AddsAtMost old m.start new → slice_get new n ≡ Some m.start → slice_get new 0 ≡ Some m.start
-  first_at old new n none (inl same) at = (let within = slice_get_within new n m.start at in let size = ap length (same ∙ none) in absurd (omega (arith, within, size)))
-  first_at old new n none (inr one) at = ap (λ (xs : List S). slice_get xs 0) (one ∙ ap (λ (xs : List S). xs ++ m.start ∷ []) none)
-
-  pub passed_first : (limit : ℕ) (f : FoundStates S) (old : List S) → old ≡ [] → AddsAtMost old m.start f.states → limit < length f.states → HavePassed m limit f
-  passed_first limit f old none adds more = record {
-    passed = more;
-    by_one = (let size = ap length none in let few = adds_by_one old m.start f.states adds in omega (arith, size, few));
-    reached = adds_each (Reached m) old m.start f.states adds start (λ k s at. absurd (let within = slice_get_within old k s at in let size = ap length none in omega (arith, within, size)));
-  }
-
-  -- ---- One more step
-
-  module _ (f : FoundStates S) (found : AreFound m f) (number : ℕ) (s : S) (at : slice_get f.states number ≡ Some s) (x : Step S) (listed : IsListed (m.steps s) x) (states : List S) (adds : AddsAtMost f.states x.next states) where
-    next_reached : (k : ℕ) (r : S) → slice_get states k ≡ Some r → Reached m r
-    next_reached = adds_each (Reached m) f.states x.next states adds (step (found.reached number s at) listed) found.reached
-
-    -- more than the limit allows
-    pub passed_next : (limit : ℕ) (g : FoundStates S) → g.states ≡ states → length f.states ≤ limit → limit < length states → HavePassed m limit g
-    passed_next limit g same few more = record {
-      passed = (let size = ap length same in omega (arith, more, size));
-      by_one = (let size = ap length same in let one = adds_by_one f.states x.next states adds in omega (arith, size, one, few));
-      reached = λ k r r_at. next_reached k r (subst (λ (xs : List S). slice_get xs k ≡ Some r) same r_at);
-    }
-
-    module _ (g : FoundStates S) (same : g.states ≡ states) (to : ℕ) (enters : slice_get states to ≡ Some x.next) (more : g.transitions.items ≡ f.transitions.items ++ record { from = number; rule = x.rule; to = to } ∷ []) where
-      t : Transition
-      t = record { from = number; rule = x.rule; to = to }
-
-      stays : Stays f.states g.states
-      stays = subst (Stays f.states) (sym same) (adds_stays f.states x.next states adds)
-
-      enters_now : slice_get g.states to ≡ Some x.next
-      enters_now = subst (λ (xs : List S). slice_get xs to ≡ Some x.next) (sym same) enters
-
-      old_step : (u : Transition) → IsStepOf m f.states u → IsStepOf m g.states u
-      old_step u h = record { state = h.state; leaves = stays u.from h.state h.leaves; step = h.step; listed = h.listed; of_rule = h.of_rule; enters = stays u.to h.step.next h.enters }
-
-      pub found_next : AreFound m g
-      found_next = record {
-        reached = λ k r r_at. next_reached k r (subst (λ (xs : List S). slice_get xs k ≡ Some r) same r_at);
-        steps = λ u one. elim (Contains-push_cases f.transitions.items (record { from = number; rule = x.rule; to = to }) u (subst (λ (ts : List Transition). Contains ts u) more one)) [
-          | inl k ↦ old_step u (found.steps u k)
-          | inr e ↦ subst (IsStepOf m g.states) e (record { state = s; leaves = stays number s at; step = x; listed = listed; of_rule = refl; enters = enters_now })
-        ];
-      }
-
-      pub extends_next : Extends f g
-      extends_next = record {
-        states = stays;
-        more = (let size = ap length same in let longer = adds_more f.states x.next states adds in omega (arith, size, longer));
-        transitions = λ u one. subst (λ (ts : List Transition). Contains ts u) (sym more) (Contains-append_left f.transitions.items (record { from = number; rule = x.rule; to = to } ∷ []) u one);
-      }
-
-      pub has_next : HasTransition g number x
-      has_next = record {
-        transition = record { from = number; rule = x.rule; to = to };
-        one = subst (λ (ts : List Transition). Contains ts (record { from = number; rule = x.rule; to = to })) (sym more) (Contains-push f.transitions.items (record { from = number; rule = x.rule; to = to }));
-        leaves = refl;
-        of_rule = refl;
-        enters = enters_now;
-      }
-
-  -- ---- What was found stays found
-
-  pub has_more : (f g : FoundStates S) → Extends f g → (number : ℕ) (x : Step S) → HasTransition f number x → HasTransition g number x
-  has_more f g e number x h = record { transition = h.transition; one = e.transitions h.transition h.one; leaves = h.leaves; of_rule = h.of_rule; enters = e.states h.transition.to x.next h.enters }
-
-  pub extends_refl : (f : FoundStates S) → Extends f f
-  extends_refl f = record { states = stays_refl f.states; more = omega arith; transitions = λ t one. one }
-
-  pub extends_trans : (f g h : FoundStates S) → Extends f g → Extends g h → Extends f h
-  extends_trans f g h a b = record {
-    states = stays_trans f.states g.states h.states a.states b.states;
-    more = (let x = a.more in let y = b.more in omega (arith, x, y));
-    transitions = λ t one. b.transitions t (a.transitions t one);
-  }
-
-  -- all steps of the state were taken
-  pub expanded : (f : FoundStates S) (number : ℕ) (s : S) (steps : List (Step S)) → slice_get f.states number ≡ Some s → steps ≡ m.steps s → ((x : Step S) → Contains steps x → HasTransition f number x) → IsExpanded m f number
-  expanded f number s steps at all each r x r_at listed =
-      let same : s ≡ r = same_place f.states number s r at r_at in
-      each x (in-Contains x steps (at-in x steps listed.0 (subst (λ (xs : List (Step S)). slice_get xs listed.0 ≡ Some x) (sym (all ∙ ap m.steps same)) listed.1)))
-
-  pub expanded_more : (f g : FoundStates S) → Extends f g → (number : ℕ) → number < length f.states → IsExpanded m f number → IsExpanded m g number
-  expanded_more f g e number within h s x at listed =
-      let there = inside f.states number within in
-      let same : there.0 ≡ s = same_place g.states number there.0 s (e.states number there.0 there.1) at in
-      has_more f g e number x (h s x (subst (λ (r : S). slice_get f.states number ≡ Some r) same there.1) listed)
-
-  -- ---- All is found
-
-  pub over_limit : (limit : ℕ) (f : FoundStates S) → HavePassed m limit f → HaveOneNumber f.states → IsOverLimit m limit (length f.states)
-  over_limit limit f h one = record {
-    passed = h.passed;
-    by_one = h.by_one;
-    reached = record {
-      list = f.states;
-      count = refl;
-      each = h.reached;
-      differ = λ i j a b less a_at b_at same. (let number = one i j b (a_at ∙ ap (λ (s : S). Some s) same) b_at in omega (arith, less, number));
-    };
-  }
-
-  module _ (f : FoundStates S) (all : AreAllFound m f) where
-    pub within : AreWithin (length f.states) f.transitions.items
-    within t one = (let h = all.found.steps t one in (slice_get_within f.states t.from h.state h.leaves, slice_get_within f.states t.to h.step.next h.enters))
-
-    -- from a live state a path leads to a final one
-    path_from : (n : ℕ) (s : S) → IsLive (map m.ends f.states) f.transitions.items n → slice_get f.states n ≡ Some s → (path : List (Step S)) × IsPath m s path
-    path_from n s (live_end h) at = (let e = mapped_at m.ends f.states n s at in ([], is_true (m.ends s) e h))
-      where
-        is_true : (b : Bool) → slice_get (map m.ends f.states) n ≡ Some b → slice_get (map m.ends f.states) n ≡ Some true → IsTrue b
-        is_true b here there = cc
-    path_from n s (live_step {t} one on) at =
-        let h = all.found.steps t one in
-        let same : h.state ≡ s = same_place f.states t.from h.state s h.leaves at in
-        let rest = path_from t.to h.step.next on h.enters in
-        (h.step ∷ rest.0, (subst (λ (r : S). IsListed (m.steps r) h.step) same h.listed, rest.1))
-
-    -- a path to a final state begins in a live one
-    live_at : (n : ℕ) (s : S) (path : List (Step S)) → IsPath m s path → slice_get f.states n ≡ Some s → IsLive (map m.ends f.states) f.transitions.items n
-    live_at n s [] ends at = live_end (mapped_at m.ends f.states n s at ∙ ap Some ends)
-    live_at n s (x ∷ path) is at =
-        let h = all.expanded n (slice_get_within f.states n s at) s x at is.0 in
-        subst (IsLive (map m.ends f.states) f.transitions.items) h.leaves (live_step h.one (live_at h.transition.to x.next path is.1 h.enters))
-
-    module _ (marks : List Bool) (are : AreLive (map m.ends f.states) f.transitions.items marks) where
-      takes : (n : ℕ) (s : S) (path : List (Step S)) → IsPath m s path → slice_get f.states n ≡ Some s → (x : Step S) → IsIn x path → Takes f.transitions.items marks x.rule
-      takes n s [] is at x h = absurd h
-      takes n s (y ∷ path) is at x (inl e) =
-          let h = all.expanded n (slice_get_within f.states n s at) s y at is.0 in
-          record {
-            transition = h.transition;
-            one = h.one;
-            of_rule = h.of_rule ∙ ap (λ (z : Step S). z.rule) (sym e);
-            is_live = (are.each h.transition.to).1 (live_at h.transition.to y.next path is.1 h.enters);
-          }
-      takes n s (y ∷ path) is at x (inr more) =
-          let h = all.expanded n (slice_get_within f.states n s at) s y at is.0 in
-          takes h.transition.to y.next path is.1 h.enters x more
-
-      -- steps to a state, one more, and a path from there
-      joined : (s r : S) (before : List (Step S)) (x : Step S) (after : List (Step S)) → Reaches m s before r → IsListed (m.steps r) x → IsPath m x.next after → IsPath m s (before ++ x ∷ after)
-      joined s r [] x after to listed rest = (subst (λ (z : S). IsListed (m.steps z) x) (sym to) listed, rest)
-      joined s r (y ∷ before) x after to listed rest = (to.0, joined y.next r before x after to.1 listed rest)
-
-      in_middle : (before : List (Step S)) (x : Step S) (after : List (Step S)) → IsIn x (before ++ x ∷ after)
-      in_middle [] x after = inl refl
-      in_middle (y ∷ before) x after = inr (in_middle before x after)
-
-      taken : (rule : ℕ) → Takes f.transitions.items marks rule → IsTaken m rule
-      taken rule h =
-          let t = all.found.steps h.transition h.one in
-          let before = path_of m (all.found.reached h.transition.from t.state t.leaves) in
-          let after = path_from h.transition.to t.step.next ((are.each h.transition.to).0 h.is_live) t.enters in
-          record {
-            path = before.0 ++ t.step ∷ after.0;
-            is_path = joined m.start t.state before.0 t.step after.0 before.1 t.listed after.1;
-            step = t.step;
-            one = in-Contains t.step (before.0 ++ t.step ∷ after.0) (in_middle before.0 t.step after.0);
-            of_rule = t.of_rule ∙ h.of_rule;
-          }
-
-      pub marked_taken : (rules : ℕ) (marked : List Bool) → AreMarkedBy f.transitions.items marks rules marked → AreTaken m rules marked
-      marked_taken rules marked by = record {
-        count = by.count;
-        taken = λ rule at. taken rule ((by.each rule (low rule true at)).0 at);
-        others = λ rule at is. apart rule at ((by.each rule (low rule false at)).1
-            (subst (Takes f.transitions.items marks) is.of_rule (takes 0 m.start is.path is.is_path all.start is.step (Contains-in is.step is.path is.one))));
-      }
-        where
-          low : (rule : ℕ) (b : Bool) → slice_get marked rule ≡ Some b → rule < rules
-          low rule b at = (let size = by.count in let inside_it = slice_get_within marked rule b at in omega (arith, inside_it, size))
-
-          apart : (rule : ℕ) → slice_get marked rule ≡ Some false → slice_get marked rule ≡ Some true → ⊥
-          apart rule missing marked_one = cc
+-- what is read at a place
+pub read_number : (xs : List ℕ) (k place x : ℕ) → place ≡ k → k < length xs → x ≡ get_or xs place x → slice_get xs k ≡ Some x
+read_number xs k place x same within is = slice_get_read xs (length xs) k x refl within (subst (λ (n : ℕ). x ≡ get_or xs n x) same is)
 
 -- ---- Marks
 
-module _ (ts : List Transition) (live_ones : List Bool) (t : Transition) where
-  takes_more : (rule : ℕ) → Takes ts live_ones rule → Takes (ts ++ t ∷ []) live_ones rule
-  takes_more rule h = record { transition = h.transition; one = Contains-append_left ts (t ∷ []) h.transition h.one; of_rule = h.of_rule; is_live = h.is_live }
+-- one more place, which isn't marked
+pub same_push : (old marks : List Bool) → MarkSame old marks → MarkSame old (marks ++ false ∷ [])
+same_push old marks same number = (
+  λ at. push_before marks false number true ((same number).0 at),
+  λ at. elim (push_cases marks false number true at) [ inl early ↦ (same number).1 early | inr last ↦ (let wrong = last.1 in cc) ],
+)
 
-  takes_cases : (rule : ℕ) → Takes (ts ++ t ∷ []) live_ones rule → Takes ts live_ones rule ⊎ ((t.rule ≡ rule) × (slice_get live_ones t.to ≡ Some true))
-  takes_cases rule h = elim (Contains-push_cases ts t h.transition h.one) [
-    | inl k ↦ inl (record { transition = h.transition; one = k; of_rule = h.of_rule; is_live = h.is_live })
-    | inr e ↦ inr (ap (λ (u : Transition). u.rule) e ∙ h.of_rule, subst (λ (u : Transition). slice_get live_ones u.to ≡ Some true) (sym e) h.is_live)
+pub marks_longer : (numbers : List ℕ) (old new : List Bool) → MarkSame old new → MarksAre numbers old → MarksAre numbers new
+marks_longer numbers old new same are = record {
+  each = λ number. (λ one. (same number).0 ((are.each number).0 one), λ at. (are.each number).1 ((same number).1 at));
+  once = are.once;
+}
+
+pub marks_none : (numbers : List ℕ) (marks : List Bool) → numbers ≡ [] → marks ≡ [] → MarksAre numbers marks
+marks_none numbers marks none no_marks = record {
+  each = λ number. (λ one. absurd (none_in numbers none number one), λ at. absurd (none_at marks no_marks number true at));
+  once = λ i j number at other. absurd (none_at numbers none i number at);
+}
+
+module _ (numbers : List ℕ) (marks : List Bool) (are : MarksAre numbers marks) (number : ℕ) (free : slice_get marks number ≡ Some false) where
+  other : (place : ℕ) → slice_get numbers place ≡ Some number → ⊥
+  other place at = (let marked = (are.each number).0 (contained numbers place number at) in cc)
+
+  -- one number more is marked
+  pub marks_add : MarksAre (numbers ++ number ∷ []) (set marks number true)
+  marks_add = record {
+    each = λ n. (
+      λ one. elim (Contains-push_cases numbers number n one) [
+        | inl early ↦ mark-kept marks number n ((are.each n).0 early)
+        | inr same ↦ subst (λ (k : ℕ). slice_get (set marks number true) k ≡ Some true) same (mark-there marks number (slice_get_within marks number false free))
+      ],
+      λ at. elim (set_cases marks number true n true at) [
+        | inl k ↦ subst (Contains (numbers ++ number ∷ [])) (sym k.0) (Contains-push numbers number)
+        | inr k ↦ Contains-append_left numbers (number ∷ []) n ((are.each n).1 k.1)
+      ],
+    );
+    once = λ i j n at there. elim (push_cases numbers number i n at) [
+      | inl early ↦ elim (push_cases numbers number j n there) [
+        | inl both ↦ are.once i j n early both
+        | inr last ↦ absurd (other i (subst (λ (k : ℕ). slice_get numbers i ≡ Some k) (sym last.1) early))
+      ]
+      | inr late ↦ elim (push_cases numbers number j n there) [
+        | inl first ↦ absurd (other j (subst (λ (k : ℕ). slice_get numbers j ≡ Some k) (sym late.1) first))
+        | inr last ↦ late.0 ∙ sym last.0
+      ]
+    ];
+  }
+
+-- ---- Numbers that are added
+
+pub adds_kept : (old : List ℕ) (number : ℕ) (new : List ℕ) → AddsAtMost old number new → (n : ℕ) → Contains old n → Contains new n
+adds_kept old number new (inl same) n one = subst (λ (xs : List ℕ). Contains xs n) (sym same) one
+adds_kept old number new (inr more) n one = subst (λ (xs : List ℕ). Contains xs n) (sym more) (Contains-append_left old (number ∷ []) n one)
+
+pub adds_by_one : (old : List ℕ) (number : ℕ) (new : List ℕ) → AddsAtMost old number new → length new ≤ length old + 1
+adds_by_one old number new (inl same) = (let size = ap length same in omega (arith, size))
+adds_by_one old number new (inr more) = (let size = ap length more in omega (arith, size, length_push old number))
+
+pub enters_none : (edges : List ListedEdge) (old : List ℕ) → Enters edges old old
+enters_none edges old = record { more = []; adds = sym (append_nothing old); entered = λ number one. absurd (none_in [] refl number one) }
+  where
+    append_nothing : (xs : List ℕ) → xs ++ [] ≡ xs
+    append_nothing [] = refl
+    append_nothing (x ∷ xs) = ap (λ (ys : List ℕ). x ∷ ys) (append_nothing xs)
+
+-- the state to which an edge leads is added, if it wasn't there
+pub enters_one : (edges : List ListedEdge) (old between new : List ℕ) (e : ListedEdge) → Contains edges e → AddsAtMost between e.next new → Enters edges old between → Enters edges old new
+enters_one edges old between new e one (inl same) enters = record { more = enters.more; adds = same ∙ enters.adds; entered = enters.entered }
+enters_one edges old between new e one (inr more) enters = record {
+  more = enters.more ++ e.next ∷ [];
+  adds = more ∙ ap (λ (xs : List ℕ). xs ++ e.next ∷ []) enters.adds ∙ append_assoc old enters.more (e.next ∷ []);
+  entered = λ number h. elim (Contains-push_cases enters.more e.next number h) [
+    | inl early ↦ enters.entered number early
+    | inr last ↦ (e, one, last)
+  ];
+}
+
+-- ---- Edges and steps
+
+-- the edge is a step of the state with this number
+record IsStepOf {S : Type 0} (m : Behaviour S) (states : List S) (number : ℕ) (e : ListedEdge) : Type 0 where
+  state : S
+  at : slice_get states number ≡ Some state
+  taken : Step S
+  listed : IsListed (m.steps state) taken
+  of_rule : taken.rule ≡ e.rule
+  enters : slice_get states e.next ≡ Some taken.next
+
+-- the step is an edge of the state at this place
+record HasStep {S : Type 0} (f : FoundStates S) (place : ℕ) (x : Step S) : Type 0 where
+  edge : ListedEdge
+  has : HasEdge f place edge
+  of_rule : edge.rule ≡ x.rule
+  enters : slice_get f.contexts.named.states edge.next ≡ Some x.next
+
+module _ {S : Type 0} (m : Behaviour S) where
+  step_of : (contexts : Contexts S) (number : ℕ) (own : Expanded) → AreEdgesAt m contexts number own → (e : ListedEdge) → Contains (edges_by contexts own) e → IsStepOf m contexts.named.states number e
+  step_of contexts number own are e one =
+      let edges = edges_by contexts own in
+      let place = place_of edges e one in
+      let x = inside (m.steps are.state) place.0 (let within = slice_get_within edges place.0 e place.1 in let size = are.edges.count in omega (arith, within, size)) in
+      let by = are.edges.each place.0 x.0 e x.1 place.1 in
+      record { state = are.state; at = are.at; taken = x.0; listed = (place.0, x.1); of_rule = sym by.rule; enters = by.next }
+
+  has_step : (f : FoundStates S) (place number : ℕ) (own : Expanded) → slice_get f.expanded.items place ≡ Some own → AreEdgesAt m f.contexts number own
+      → (s : S) (x : Step S) → slice_get f.contexts.named.states number ≡ Some s → IsListed (m.steps s) x → HasStep f place x
+  has_step f place number own at are s x s_at listed =
+      let edges = edges_by f.contexts own in
+      let same : s ≡ are.state = same_place f.contexts.named.states number s are.state s_at are.at in
+      let x_at : slice_get (m.steps are.state) listed.0 ≡ Some x = subst (λ (r : S). slice_get (m.steps r) listed.0 ≡ Some x) same listed.1 in
+      let e = inside edges listed.0 (let within = slice_get_within (m.steps are.state) listed.0 x x_at in let size = are.edges.count in omega (arith, within, size)) in
+      let by = are.edges.each listed.0 x e.0 x_at e.1 in
+      record { edge = e.0; has = record { own = own; at = at; one = contained edges listed.0 e.0 e.1 }; of_rule = by.rule; enters = by.next }
+
+  -- the state to which an edge leads is known
+  pub next_known : (contexts : Contexts S) (number : ℕ) (own : Expanded) → AreEdgesAt m contexts number own → (e : ListedEdge) → Contains (edges_by contexts own) e → e.next < length contexts.named.states
+  next_known contexts number own are e one = (let x = step_of contexts number own are e one in slice_get_within contexts.named.states e.next x.taken.next x.enters)
+
+  -- each state that is found is known
+  pub found_known : (states : List S) (order : List ℕ) → AreReached m states order → (number : ℕ) → Contains order number → number < length states
+  found_known states order reached number one = (let r = reached number one in slice_get_within states number r.0 r.1)
+
+-- the edges stay where more is known
+edges_same : {S : Type 0} (old new : Contexts S) → StillKnows old new → (own : Expanded) → IsWithin old own → edges_by old own ≡ edges_by new own
+edges_same old new knows (steps.ByContext own) within = ap (λ (o : Option Forms). edges_of o own) (within.1 ∙ sym (knows.forms own.context within.0 within.1))
+edges_same old new knows (steps.Own edges) within = refl
+
+-- ---- The start
+
+module _ {S D : Type 0} (m : Behaviour S) (h : Sharing S D) where
+  -- only the start is found
+  pub found_first : (old f : FoundStates S) (number : ℕ) → IsNothing old → f.contexts.bases ≡ old.contexts.bases → f.contexts.forms.items ≡ old.contexts.forms.items → f.expanded.items ≡ old.expanded.items
+      → slice_get f.contexts.named.states number ≡ Some m.start → AddsAtMost old.order.items number f.order.items → Contains f.order.items number → MarksAre f.order.items f.marks.items → AreFound m h f
+  found_first old f number nothing bases forms expanded at adds one marks = record {
+    contexts = record {
+      count = ap length (forms ∙ nothing.contexts.forms) ∙ sym (ap length (bases ∙ nothing.contexts.bases));
+      each = λ k base own base_at own_at. absurd (none_at f.contexts.bases (bases ∙ nothing.contexts.bases) k base base_at);
+    };
+    marks = marks;
+    reached = λ n there. (m.start, subst (λ (k : ℕ). slice_get f.contexts.named.states k ≡ Some m.start) (only adds n there) at, start);
+    start = (number, one, at);
+    few = (let size = ap length none in omega (arith, size));
+    edges = λ place n own n_at own_at. absurd (none_at f.expanded.items none place own own_at);
+    entered = λ place e has. absurd (none_at f.expanded.items none place has.own has.at);
+  }
+    where
+      none : f.expanded.items ≡ []
+      none = expanded ∙ nothing.expanded
+
+      only : AddsAtMost old.order.items number f.order.items → (n : ℕ) → Contains f.order.items n → number ≡ n
+      only (inl same) n there = absurd (none_in f.order.items (same ∙ nothing.order) n there)
+      only (inr more) n there = elim (Contains-push_cases old.order.items number n (subst (λ (xs : List ℕ). Contains xs n) more there)) [
+        | inl early ↦ absurd (none_in old.order.items nothing.order n early)
+        | inr same ↦ same
+      ]
+
+pub one_first : (old : List ℕ) (number : ℕ) (new : List ℕ) → old ≡ [] → AddsAtMost old number new → Contains new number → length new ≡ 1
+one_first old number new none (inl same) one = absurd (none_in new (same ∙ none) number one)
+one_first old number new none (inr more) one = (let size = ap length more in let nothing = ap length none in omega (arith, size, nothing, length_push old number))
+
+-- the start alone is more than the limit allows
+pub passed_first : {S D : Type 0} (m : Behaviour S) (h : Sharing S D) (limit : ℕ) (f : FoundStates S) → AreFound m h f → length f.order.items ≡ 1 → limit < length f.order.items → HavePassed m limit f
+passed_first m h limit f found one more = record { passed = more; by_one = omega (arith, one); reached = found.reached; once = found.marks.once }
+
+-- ---- One more state is expanded
+
+module _ {S D : Type 0} (m : Behaviour S) (h : Sharing S D) (f g : FoundStates S) (found : AreFound m h f) (knows : StillKnows f.contexts g.contexts) (number : ℕ) (own : Expanded)
+    (at : slice_get f.order.items (length f.expanded.items) ≡ Some number) (are : AreEdgesAt m g.contexts number own) (enters : Enters (edges_by g.contexts own) f.order.items g.order.items) where
+  kept_at : (place n : ℕ) → slice_get f.order.items place ≡ Some n → slice_get g.order.items place ≡ Some n
+  kept_at place n n_at = subst (λ (xs : List ℕ). slice_get xs place ≡ Some n) (sym enters.adds) (before_more f.order.items enters.more place n n_at)
+
+  pub reached_next : AreReached m g.contexts.named.states g.order.items
+  reached_next n there = elim (Contains-append_cases f.order.items enters.more n (subst (λ (xs : List ℕ). Contains xs n) enters.adds there)) [
+    | inl early ↦ (let r = found.reached n early in (r.0, knows.names.states n r.0 r.1, r.2))
+    | inr late ↦
+        let e = enters.entered n late in
+        let x = step_of m g.contexts number own are e.0 e.1 in
+        let r = found.reached number (contained f.order.items (length f.expanded.items) number at) in
+        let same : r.0 ≡ x.state = same_place g.contexts.named.states number r.0 x.state (knows.names.states number r.0 r.1) x.at in
+        (x.taken.next, subst (λ (k : ℕ). slice_get g.contexts.named.states k ≡ Some x.taken.next) e.2 x.enters, step (subst (Reached m) same r.2) x.listed)
   ]
 
-  module _ (rules : ℕ) (marks : List Bool) (are : AreMarkedBy ts live_ones rules marks) where
-    -- its rule is marked
-    pub mark-rule : t.rule < rules → slice_get live_ones t.to ≡ Some true → AreMarkedBy (ts ++ t ∷ []) live_ones rules (set marks t.rule true)
-    mark-rule low is_live = record {
-      count = length-set marks t.rule true ∙ are.count;
-      each = λ rule within. (
-        λ at. elim (set_cases marks t.rule true rule true at) [
-          | inl k ↦ record { transition = t; one = Contains-push ts t; of_rule = sym k.0; is_live = is_live }
-          | inr k ↦ takes_more rule ((are.each rule within).0 k.1)
-        ],
-        λ h. elim (takes_cases rule h) [
-          | inl k ↦ mark-kept marks t.rule rule ((are.each rule within).1 k)
-          | inr k ↦ subst (λ (n : ℕ). slice_get (set marks t.rule true) n ≡ Some true) k.0 (mark-there marks t.rule (let size = are.count in omega (arith, low, size)))
-        ],
-      );
+  -- more than the limit allows
+  pub passed_next : (limit : ℕ) → MarksAre g.order.items g.marks.items → limit < length g.order.items → length g.order.items ≤ limit + 1 → HavePassed m limit g
+  passed_next limit marks passed by_one = record { passed = passed; by_one = by_one; reached = reached_next; once = marks.once }
+
+  module _ (contexts : AreContexts m h g.contexts) (marks : MarksAre g.order.items g.marks.items) (grown : g.expanded.items ≡ f.expanded.items ++ own ∷ [])
+      (all : (e : ListedEdge) → Contains (edges_by g.contexts own) e → Contains g.order.items e.next) where
+    still_there : (n : ℕ) → Contains f.order.items n → Contains g.order.items n
+    still_there n one = subst (λ (xs : List ℕ). Contains xs n) (sym enters.adds) (Contains-append_left f.order.items enters.more n one)
+
+    -- what is expanded was, or is the next state
+    which : (place : ℕ) (o : Expanded) → slice_get g.expanded.items place ≡ Some o → (slice_get f.expanded.items place ≡ Some o) ⊎ ((place ≡ length f.expanded.items) × (own ≡ o))
+    which place o o_at = push_cases f.expanded.items own place o (subst (λ (xs : List Expanded). slice_get xs place ≡ Some o) grown o_at)
+
+    -- the state whose steps were known
+    old_at : (place : ℕ) (o : Expanded) → slice_get f.expanded.items place ≡ Some o → (n : ℕ) × (slice_get f.order.items place ≡ Some n)
+    old_at place o o_at = inside f.order.items place (let within = slice_get_within f.expanded.items place o o_at in let few = found.few in omega (arith, within, few))
+
+    edges_next : (place n : ℕ) (o : Expanded) → slice_get g.order.items place ≡ Some n → slice_get g.expanded.items place ≡ Some o → AreEdgesAt m g.contexts n o
+    edges_next place n o n_at o_at = elim (which place o o_at) [
+      | inl early ↦
+          let old = old_at place o early in
+          let same : old.0 ≡ n = same_place g.order.items place old.0 n (kept_at place old.0 old.1) n_at in
+          edges_kept m f.contexts g.contexts knows n o (found.edges place n o (subst (λ (k : ℕ). slice_get f.order.items place ≡ Some k) same old.1) early)
+      | inr last ↦
+          let same : number ≡ n = same_place g.order.items place number n (subst (λ (k : ℕ). slice_get g.order.items k ≡ Some number) (sym last.0) (kept_at (length f.expanded.items) number at)) n_at in
+          subst (AreEdgesAt m g.contexts n) last.1 (subst (λ (k : ℕ). AreEdgesAt m g.contexts k own) same are)
+    ]
+
+    entered_next : (place : ℕ) (e : ListedEdge) → HasEdge g place e → Contains g.order.items e.next
+    entered_next place e has = elim (which place has.own has.at) [
+      | inl early ↦
+          let old = old_at place has.own early in
+          let same = edges_same f.contexts g.contexts knows has.own (found.edges place old.0 has.own old.1 early).within in
+          still_there e.next (found.entered place e (record { own = has.own; at = early; one = subst (λ (xs : List ListedEdge). Contains xs e) (sym same) has.one }))
+      | inr last ↦ all e (subst (λ (o : Expanded). Contains (edges_by g.contexts o) e) (sym last.1) has.one)
+    ]
+
+    pub found_next : AreFound m h g
+    found_next = record {
+      contexts = contexts;
+      marks = marks;
+      reached = reached_next;
+      start = (found.start.0, still_there found.start.0 found.start.1, knows.names.states found.start.0 m.start found.start.2);
+      few = (let size = ap length grown in let within = slice_get_within f.order.items (length f.expanded.items) number at in
+          let there = slice_get_within g.order.items (length f.expanded.items) number (kept_at (length f.expanded.items) number at) in omega (arith, size, there, length_push f.expanded.items own));
+      edges = edges_next;
+      entered = entered_next;
     }
 
-    -- nothing is marked
-    pub mark-nothing : (t.rule < rules → slice_get live_ones t.to ≡ Some true → ⊥) → AreMarkedBy (ts ++ t ∷ []) live_ones rules marks
-    mark-nothing other = record {
-      count = are.count;
-      each = λ rule within. (
-        λ at. takes_more rule ((are.each rule within).0 at),
-        λ h. elim (takes_cases rule h) [
-          | inl k ↦ (are.each rule within).1 k
-          | inr k ↦ absurd (other (let same = k.0 in omega (arith, same, within)) k.1)
-        ],
-      );
+-- ---- The limit
+
+pub over_limit : {S : Type 0} (m : Behaviour S) (limit : ℕ) (f : FoundStates S) → HavePassed m limit f → HaveOneNumber f.contexts.named.states → IsOverLimit m limit (length f.order.items)
+over_limit {S} m limit f h one = record {
+  passed = h.passed;
+  by_one = h.by_one;
+  reached = record {
+    list = map state f.order.items;
+    count = length-map f.order.items state;
+    each = λ i s at. (let n = mapped_from state f.order.items i s at in let r = reached_at i n.0 n.1 in subst (Reached m) (sym (known n.0 r.0 r.1) ∙ n.2) r.2);
+    differ = λ i j a b less a_at b_at same.
+        (let n = mapped_from state f.order.items i a a_at in
+        let k = mapped_from state f.order.items j b b_at in
+        let r = reached_at i n.0 n.1 in
+        let t = reached_at j k.0 k.1 in
+        let equal : t.0 ≡ r.0 = sym (known k.0 t.0 t.1) ∙ k.2 ∙ sym same ∙ sym n.2 ∙ known n.0 r.0 r.1 in
+        let number : n.0 ≡ k.0 = one n.0 k.0 r.0 r.1 (subst (λ (s : S). slice_get states k.0 ≡ Some s) equal t.1) in
+        let place = h.once i j k.0 (subst (λ (x : ℕ). slice_get f.order.items i ≡ Some x) number n.1) k.1 in
+        omega (arith, less, place));
+  };
+}
+  where
+    states : List S
+    states = f.contexts.named.states
+
+    state : ℕ → S
+    state n = get_or states n m.start
+
+    reached_at : (i n : ℕ) → slice_get f.order.items i ≡ Some n → (s : S) × (slice_get states n ≡ Some s) × Reached m s
+    reached_at i n at = h.reached n (contained f.order.items i n at)
+
+    known : (n : ℕ) (s : S) → slice_get states n ≡ Some s → state n ≡ s
+    known n s at = get_or_from_slice_get states n s m.start at
+
+-- ---- All is found
+
+module _ {S D : Type 0} (m : Behaviour S) (h : Sharing S D) (f : FoundStates S) (found : AreFound m h f) (all : length f.expanded.items ≡ length f.order.items) where
+  known_next : (number : ℕ) → Contains f.order.items number → number < length f.contexts.named.states
+  known_next = found_known m f.contexts.named.states f.order.items found.reached
+
+  pub whole : IsWhole f
+  whole = record {
+    count = all;
+    known = known_next;
+    within = λ place own at. (let n = inside f.order.items place (let below = slice_get_within f.expanded.items place own at in omega (arith, below, all)) in (found.edges place n.0 own n.1 at).within);
+    nexts = λ place e has. known_next e.next (found.entered place e has);
+  }
+
+  -- a state that is found has a place, and its steps are known there
+  record IsHere (number : ℕ) : Type 0 where
+    place : ℕ
+    at : slice_get f.order.items place ≡ Some number
+    own : Expanded
+    own_at : slice_get f.expanded.items place ≡ Some own
+
+  here : (number : ℕ) → Contains f.order.items number → IsHere number
+  here number one =
+      let at = place_of f.order.items number one in
+      let own = inside f.expanded.items at.0 (let below = slice_get_within f.order.items at.0 number at.1 in omega (arith, below, all)) in
+      record { place = at.0; at = at.1; own = own.0; own_at = own.1 }
+
+  steps_here : (number : ℕ) (p : IsHere number) (s : S) (x : Step S) → slice_get f.contexts.named.states number ≡ Some s → IsListed (m.steps s) x → HasStep f p.place x
+  steps_here number p s x at listed = has_step m f p.place number p.own p.own_at (found.edges p.place number p.own p.at p.own_at) s x at listed
+
+  -- from a live state a path leads to a final one
+  path_from : (n : ℕ) (s : S) → IsLive (map m.ends f.contexts.named.states) f n → slice_get f.contexts.named.states n ≡ Some s → (path : List (Step S)) × IsPath m s path
+  path_from n s (live_end h) at = (let e = mapped_at m.ends f.contexts.named.states n s at in ([], is_true (m.ends s) e h))
+    where
+      is_true : (b : Bool) → slice_get (map m.ends f.contexts.named.states) n ≡ Some b → slice_get (map m.ends f.contexts.named.states) n ≡ Some true → IsTrue b
+      is_true b here there = cc
+  path_from n s (live_step {place} {number} {e} there has on) at =
+      let x = step_of m f.contexts n has.own (found.edges place n has.own there has.at) e has.one in
+      let same : x.state ≡ s = same_place f.contexts.named.states n x.state s x.at at in
+      let rest = path_from e.next x.taken.next on x.enters in
+      (x.taken ∷ rest.0, (subst (λ (r : S). IsListed (m.steps r) x.taken) same x.listed, rest.1))
+
+  -- a path to a final state begins in a live one
+  live_at : (n : ℕ) (s : S) (path : List (Step S)) → Contains f.order.items n → IsPath m s path → slice_get f.contexts.named.states n ≡ Some s → IsLive (map m.ends f.contexts.named.states) f n
+  live_at n s [] one ends at = live_end (mapped_at m.ends f.contexts.named.states n s at ∙ ap Some ends)
+  live_at n s (x ∷ path) one is at =
+      let p = here n one in
+      let y = steps_here n p s x at is.0 in
+      live_step p.at y.has (live_at y.edge.next x.next path (found.entered p.place y.edge y.has) is.1 y.enters)
+
+  module _ (marks : List Bool) (are : AreLive (map m.ends f.contexts.named.states) f marks) where
+    takes : (n : ℕ) (s : S) (path : List (Step S)) → Contains f.order.items n → IsPath m s path → slice_get f.contexts.named.states n ≡ Some s → (x : Step S) → IsIn x path
+        → TakesBelow f marks (length f.expanded.items) x.rule
+    takes n s [] one is at x h = absurd h
+    takes n s (y ∷ path) one is at x (inl e) =
+        let p = here n one in
+        let z = steps_here n p s y at is.0 in
+        record {
+          place = p.place;
+          low = slice_get_within f.expanded.items p.place p.own p.own_at;
+          edge = z.edge;
+          has = z.has;
+          of_rule = z.of_rule ∙ ap (λ (w : Step S). w.rule) (sym e);
+          is_live = (are.each z.edge.next).1 (live_at z.edge.next y.next path (found.entered p.place z.edge z.has) is.1 z.enters);
+        }
+    takes n s (y ∷ path) one is at x (inr more) =
+        let p = here n one in
+        let z = steps_here n p s y at is.0 in
+        takes z.edge.next y.next path (found.entered p.place z.edge z.has) is.1 z.enters x more
+
+    -- steps to a state, one more, and a path from there
+    joined : (s r : S) (before : List (Step S)) (x : Step S) (after : List (Step S)) → Reaches m s before r → IsListed (m.steps r) x → IsPath m x.next after → IsPath m s (before ++ x ∷ after)
+    joined s r [] x after to listed rest = (subst (λ (z : S). IsListed (m.steps z) x) (sym to) listed, rest)
+    joined s r (y ∷ before) x after to listed rest = (to.0, joined y.next r before x after to.1 listed rest)
+
+    in_middle : (before : List (Step S)) (x : Step S) (after : List (Step S)) → IsIn x (before ++ x ∷ after)
+    in_middle [] x after = inl refl
+    in_middle (y ∷ before) x after = inr (in_middle before x after)
+
+    taken : (rule : ℕ) → TakesBelow f marks (length f.expanded.items) rule → IsTaken m rule
+    taken rule t =
+        let n = inside f.order.items t.place (let low = t.low in omega (arith, low, all)) in
+        let x = step_of m f.contexts n.0 t.has.own (found.edges t.place n.0 t.has.own n.1 t.has.at) t.edge t.has.one in
+        let r = found.reached n.0 (contained f.order.items t.place n.0 n.1) in
+        let same : r.0 ≡ x.state = same_place f.contexts.named.states n.0 r.0 x.state r.1 x.at in
+        let before = path_of m (subst (Reached m) same r.2) in
+        let after = path_from t.edge.next x.taken.next ((are.each t.edge.next).0 t.is_live) x.enters in
+        record {
+          path = before.0 ++ x.taken ∷ after.0;
+          is_path = joined m.start x.state before.0 x.taken after.0 before.1 x.listed after.1;
+          step = x.taken;
+          one = in-Contains x.taken (before.0 ++ x.taken ∷ after.0) (in_middle before.0 x.taken after.0);
+          of_rule = x.of_rule ∙ t.of_rule;
+        }
+
+    pub marked_taken : (rules : ℕ) (marked : List Bool) → AreMarkedBy f marks (length f.expanded.items) rules marked → AreTaken m rules marked
+    marked_taken rules marked by = record {
+      count = by.count;
+      taken = λ rule at. taken rule ((by.each rule (low rule true at)).0 at);
+      others = λ rule at is. apart rule at ((by.each rule (low rule false at)).1
+          (subst (TakesBelow f marks (length f.expanded.items)) is.of_rule (takes found.start.0 m.start is.path found.start.1 is.is_path found.start.2 is.step (Contains-in is.step is.path is.one))));
     }
+      where
+        low : (rule : ℕ) (b : Bool) → slice_get marked rule ≡ Some b → rule < rules
+        low rule b at = (let size = by.count in let inside_it = slice_get_within marked rule b at in omega (arith, inside_it, size))
+
+        apart : (rule : ℕ) → slice_get marked rule ≡ Some false → slice_get marked rule ≡ Some true → ⊥
+        apart rule missing marked_one = cc

@@ -1,15 +1,18 @@
--- Live states are marked one by one.
-use Rattle.std.proofs.Common.{◌≡◌, ℕ, zero, suc, ◌+◌, ◌<◌, ◌≤◌, Bool, true, false, not, cond, List, [], ◌∷◌, ◌++◌, length, take, set, refl, ap, sym, subst, ◌∙◌, arith, Some, Contains, slice_get, ◌⊎◌, ◌↔◌, inl, inr, append_assoc, length-append, get_or}
-use Rattle.std.specs.Global.{Vec}
+-- Marks are set one by one: those of live states, and those of the rules of edges that lead to
+-- them.
+use Rattle.std.proofs.Common.{◌≡◌, ℕ, zero, suc, ◌+◌, ◌<◌, ◌≤◌, Bool, IsTrue, true, false, not, cond, List, [], ◌∷◌, ◌++◌, length, take, set, refl, ap, sym, subst, ◌∙◌, arith, Some, Contains, slice_get, ◌⊎◌, ◌↔◌, inl, inr}
 use Rattle.std.proofs.Math.ListN.{length-set}
-use Rattle.std.proofs.lemmas.List.Elements.{Contains-append_left, Contains-append_right, Contains-append_cases, Contains-push, Contains-push_cases}
+use Rattle.std.proofs.lemmas.List.Elements.{Contains-append_left, Contains-push, Contains-push_cases}
 use Rattle.std.proofs.lemmas.List.Sums.{sum_by-cons}
-use Rattle.std.proofs.lemmas.Option.{slice_get_within, slice_get_read}
-use Rattle.brl_pairs.proofs.Lists.{inside, push_cases, three_ways, same_place, set_cases}
+use Rattle.std.proofs.lemmas.Option.{slice_get_within}
+use Rattle.brl_contexts.specs.Contexts.{edges_by}
+use Rattle.brl_contexts.specs.declared.contexts.Expanded.{Expanded}
+use Rattle.brl_pairs.specs.declared.edge.ListedEdge.{ListedEdge}
+use Rattle.brl_pairs.proofs.Lists.{push_cases, same_place, set_cases, take-got, three_ways}
 use Rattle.brl_pairs.proofs.Numbered.{contained}
-use Rattle.brl_unused.specs.Graph.{AreAscending, AreLive, AreWithin, IsLive, final, step}
-use Rattle.brl_unused.specs.Marking.{AreBefore, AreMarked, AreTaken, Leads, Marks, unmarked}
-use Rattle.brl_unused.specs.declared.graph.Transition.{Transition}
+use Rattle.brl_unused.specs.Graph.{AreAscending, AreLive, HasEdge, IsLive, final, step}
+use Rattle.brl_unused.specs.Marking.{AreMarked, AreMarkedBy, IsClosed, LeadToLive, LeadsOn, MarksMore, Takes, TakesBelow, unmarked}
+use Rattle.brl_unused.specs.declared.found.FoundStates.{FoundStates}
 
 -- ---- One mark
 
@@ -25,7 +28,7 @@ mark-kept (b ∷ bs) zero (suc s) h = h
 mark-kept (b ∷ bs) (suc i) zero h = h
 mark-kept (b ∷ bs) (suc i) (suc s) h = mark-kept bs i s h
 
-mark-fewer : (live : List Bool) (i : ℕ) → slice_get live i ≡ Some false → unmarked (set live i true) + 1 ≡ unmarked live
+pub mark-fewer : (live : List Bool) (i : ℕ) → slice_get live i ≡ Some false → unmarked (set live i true) + 1 ≡ unmarked live
 mark-fewer [] i h = cc
 mark-fewer (b ∷ bs) zero h =
     let is : b ≡ false = cc in
@@ -45,155 +48,140 @@ mark-fewer (b ∷ bs) (suc i) h =
 pub no_member : (x : ℕ) → Contains [] x → ⊥
 no_member x h = omega (arith, h.1)
 
-module _ (states : List ℕ) (live : List Bool) (queue : List ℕ) (live' : List Bool) (queue' : List ℕ) (m : Marks states live queue live' queue') (state : ℕ) where
-  -- the state was marked before
-  pub marks-again : slice_get live' state ≡ Some true → Marks (states ++ state ∷ []) live queue live' queue'
-  marks-again there = record {
-    many = m.many;
-    more = m.more;
-    queue_is = m.queue_is;
-    kept = m.kept;
-    all = λ s h. elim (Contains-push_cases states state s h) [ inl k ↦ m.all s k | inr e ↦ subst (λ n. slice_get live' n ≡ Some true) e there ];
-    only = λ s h. elim (m.only s h) [ inl k ↦ inl k | inr k ↦ inr (Contains-append_left states (state ∷ []) s k.0, k.1) ];
-    marked = m.marked;
-    fewer = m.fewer;
+pub not_both : (b : Bool) → b ≡ false → Some b ≡ Some true → ⊥
+not_both b is_false is_true = cc
+
+-- ---- Edges that lead to live states
+
+-- none of the edges so far leads to a live state, and the next one doesn't
+pub none_more : (edges : List ListedEdge) (live : List Bool) (i : ℕ) (e : ListedEdge) → slice_get edges i ≡ Some e → (LeadToLive (take i edges) live → ⊥) → (slice_get live e.next ≡ Some true → ⊥)
+    → LeadToLive (take (i + 1) edges) live → ⊥
+none_more edges live i e at none not_this lead =
+    elim (Contains-push_cases (take i edges) e lead.edge (subst (λ (xs : List ListedEdge). Contains xs lead.edge) (take-got edges i e at) lead.one)) [
+      | inl k ↦ none (record { edge = lead.edge; one = k; is_live = lead.is_live })
+      | inr same ↦ not_this (subst (λ (x : ListedEdge). slice_get live x.next ≡ Some true) (sym same) lead.is_live)
+    ]
+
+module _ {S : Type 0} (f : FoundStates S) (place : ℕ) (own : Expanded) (at : slice_get f.expanded.items place ≡ Some own) where
+  -- an edge of the state at this place is one of these
+  pub one_of : (e : ListedEdge) → HasEdge f place e → Contains (edges_by f.contexts own) e
+  one_of e has = subst (λ (o : Expanded). Contains (edges_by f.contexts o) e) (same_place f.expanded.items place has.own own has.at at) has.one
+
+  pub leads_by : (live : List Bool) → LeadToLive (edges_by f.contexts own) live ↔ LeadsOn f live place
+  leads_by live = (
+    λ l. record { edge = l.edge; has = record { own = own; at = at; one = l.one }; is_live = l.is_live },
+    λ l. record { edge = l.edge; one = one_of l.edge l.has; is_live = l.is_live },
+  )
+
+-- ---- Live states
+
+module _ {S : Type 0} (ends : List Bool) (f : FoundStates S) (live : List Bool) (marked : AreMarked ends f live) where
+  -- a state is marked of which an edge leads to a marked one
+  pub marked_more : (place number : ℕ) → slice_get f.order.items place ≡ Some number → LeadsOn f live place → AreMarked ends f (set live number true)
+  marked_more place number at leads = record {
+    count = length-set live number true ∙ marked.count;
+    finals = λ n h. mark-kept live number n (marked.finals n h);
+    live_ones = λ n h. elim (set_cases live number true n true h) [
+      | inl k ↦ subst (IsLive ends f) (sym k.0) (step at leads.has (marked.live_ones leads.edge.next leads.is_live))
+      | inr k ↦ marked.live_ones n k.1
+    ];
   }
 
-  -- it is marked and queued
-  pub marks-new : slice_get live' state ≡ Some false → state < length live' → Marks (states ++ state ∷ []) live queue (set live' state true) (queue' ++ state ∷ [])
-  marks-new free within = record {
-    many = length-set live' state true ∙ m.many;
-    more = m.more ++ state ∷ [];
-    queue_is = ap (λ q. q ++ state ∷ []) m.queue_is ∙ append_assoc queue m.more (state ∷ []);
-    kept = λ s h. mark-kept live' state s (m.kept s h);
-    all = λ s h. elim (Contains-push_cases states state s h) [
-      | inl k ↦ mark-kept live' state s (m.all s k)
-      | inr e ↦ subst (λ n. slice_get (set live' state true) n ≡ Some true) e (mark-there live' state within)
-    ];
-    only = λ s h. elim (set_cases live' state true s true h) [
-      | inl k ↦ inr (subst (λ n. Contains (states ++ state ∷ []) n) (sym k.0) (Contains-push states state), subst (λ n. Contains (m.more ++ state ∷ []) n) (sym k.0) (Contains-push m.more state))
-      | inr k ↦ elim (m.only s k.1) [ inl old ↦ inl old | inr new ↦ inr (Contains-append_left states (state ∷ []) s new.0, Contains-append_left m.more (state ∷ []) s new.1) ]
-    ];
-    marked = λ s h. elim (Contains-push_cases m.more state s h) [
-      | inl k ↦ mark-kept live' state s (m.marked s k)
-      | inr e ↦ subst (λ n. slice_get (set live' state true) n ≡ Some true) e (mark-there live' state within)
-    ];
-    fewer = let less = mark-fewer live' state free in let longer = length-append queue' (state ∷ []) in omega (arith, less, longer, m.fewer);
-  }
+  module _ (closed : IsClosed f live) where
+    is_marked : (number : ℕ) → IsLive ends f number → slice_get live number ≡ Some true
+    is_marked number (final h) = marked.finals number h
+    is_marked number (step {place} {number = n} {e} at has on) = closed place n at (record { edge = e; has = has; is_live = is_marked e.next on })
 
--- ---- The queue
+    pub all_live : AreLive ends f live
+    all_live = record { count = marked.count; each = λ number. (marked.live_ones number, is_marked number) }
 
-pub taken-next : (queue more : List ℕ) (next state : ℕ) → slice_get queue next ≡ Some state → take (next + 1) (queue ++ more) ≡ take next queue ++ state ∷ []
-taken-next [] more next state at = cc
-taken-next (q ∷ qs) more zero state at = let is : q ≡ state = cc in ap (λ n. n ∷ []) is
-taken-next (q ∷ qs) more (suc next) state at =
-    let e : suc next + 1 ≡ suc (next + 1) = omega arith in
-    ap (λ n. take n (q ∷ (qs ++ more))) e ∙ ap (λ xs. q ∷ xs) (taken-next qs more next state at)
-
-module _ (ends : List Bool) (transitions : List Transition) (before : List (Vec ℕ)) (are : AreBefore (length ends) transitions before) (within : AreWithin (length ends) transitions) where
-  module _ (live : List Bool) (queue : List ℕ) (marked : AreMarked ends transitions live queue) where
-    -- there is a list of the states before a state of the queue
-    pub low : (next state : ℕ) → slice_get queue next ≡ Some state → state < length before
-    low next state at =
-        let on = slice_get_within live state true (marked.marked state (contained queue next state at)) in
-        omega (arith, on, marked.many, are.many)
-
-    -- the next state of the queue, and the list of the states before it
-    pub next_there : (next state : ℕ) (states : Vec ℕ) → next < length queue → state ≡ get_or queue next state → states ≡ get_or before state states
-        → (slice_get queue next ≡ Some state) × (slice_get before state ≡ Some states)
-    next_there next state states within_queue is states_are =
-        let at = slice_get_read queue (length queue) next state refl within_queue is in
-        (at, slice_get_read before (length before) state states refl (low next state at) states_are)
-
-    -- the states before the next one are marked
-    module _ (next state : ℕ) (states : Vec ℕ) (at : slice_get queue next ≡ Some state) (there : slice_get before state ≡ Some states)
-        (taken : AreTaken before live (take next queue)) (live' : List Bool) (queue' : List ℕ) (m : Marks states.items live queue live' queue') where
-      pub marked-more : AreMarked ends transitions live' queue'
-      marked-more = record {
-        many = m.many ∙ marked.many;
-        finals = λ s h. m.kept s (marked.finals s h);
-        live_ones = λ s h. elim (m.only s h) [
-          | inl k ↦ marked.live_ones s k
-          | inr k ↦
-              let led = are.others state s states there k.0 in
-              let on = marked.live_ones state (marked.marked state (contained queue next state at)) in
-              subst (IsLive ends transitions) led.leaves (step led.one (subst (IsLive ends transitions) (sym led.enters) on))
-        ];
-        queued = λ s h. elim (m.only s h) [
-          | inl k ↦ subst (λ q. Contains q s) (sym m.queue_is) (Contains-append_left queue m.more s (marked.queued s k))
-          | inr k ↦ subst (λ q. Contains q s) (sym m.queue_is) (Contains-append_right queue m.more s k.1)
-        ];
-        marked = λ s h. elim (Contains-append_cases queue m.more s (subst (λ q. Contains q s) m.queue_is h)) [
-          | inl k ↦ m.kept s (marked.marked s k)
-          | inr k ↦ m.marked s k
-        ];
-      }
-
-      pub taken-more : AreTaken before live' (take (next + 1) queue')
-      taken-more to from list one list_at of_list =
-          let split : take (next + 1) queue' ≡ take next queue ++ state ∷ [] = ap (take (next + 1)) m.queue_is ∙ taken-next queue m.more next state at in
-          elim (Contains-push_cases (take next queue) state to (subst (λ q. Contains q to) split one)) [
-            | inl k ↦ m.kept from (taken to from list k list_at of_list)
-            | inr e ↦
-                let same : states ≡ list = same_place before state states list there (subst (λ n. slice_get before n ≡ Some list) (sym e) list_at) in
-                m.all from (subst (λ (v : Vec ℕ). Contains v.items from) (sym same) of_list)
-          ]
-
-    -- nothing is left in the queue
-    module _ (taken : AreTaken before live queue) where
-      is_marked : (state : ℕ) → IsLive ends transitions state → slice_get live state ≡ Some true
-      is_marked state (final h) = marked.finals state h
-      is_marked state (step {t} one on) =
-          let there = marked.queued t.to (is_marked t.to on) in
-          let at = inside before t.to (omega (arith, (within t one).1, are.many)) in
-          taken t.to t.from at.0 there at.1 (are.all t at.0 one at.1)
-
-      pub all-live : AreLive ends transitions live
-      all-live = record { count = marked.many; each = λ state. (marked.live_ones state, is_marked state) }
+-- a round that marks more leaves fewer, and after another there is none
+pub smaller : (more again : Bool) (new old : ℕ) → (IsTrue more → new < old) → new ≤ old → IsTrue again → new + cond more 1 0 < old + cond again 1 0
+smaller true true new old fewer most is = (let less = fewer refl in omega (arith, less))
+smaller false true new old fewer most is = omega (arith, most)
+smaller true false new old fewer most is = cc
+smaller false false new old fewer most is = cc
 
 -- at first the final states are marked
-pub marked-start : (ends : List Bool) (transitions : List Transition) (queue : List ℕ) → ((state : ℕ) → Contains queue state ↔ (slice_get ends state ≡ Some true)) → AreMarked ends transitions ends queue
-marked-start ends transitions queue are = record {
-  many = refl;
-  finals = λ s h. h;
-  live_ones = λ s h. final h;
-  queued = λ s h. (are s).1 h;
-  marked = λ s h. (are s).0 h;
-}
+pub marked_start : {S : Type 0} (ends : List Bool) (f : FoundStates S) → AreMarked ends f ends
+marked_start ends f = record { count = refl; finals = λ n h. h; live_ones = λ n h. final h }
 
-pub taken-none : (before : List (Vec ℕ)) (live : List Bool) → AreTaken before live []
-taken-none before live to from states one at of = absurd (no_member to one)
+-- ---- The rules of some edges
 
--- ---- The states before each state
+module _ (edges : List ListedEdge) (live old marks : List Bool) (are : MarksMore edges live old marks) (e : ListedEdge) where
+  takes_cases : (rule : ℕ) → Takes (edges ++ e ∷ []) live rule → Takes edges live rule ⊎ ((e.rule ≡ rule) × (slice_get live e.next ≡ Some true))
+  takes_cases rule h = elim (Contains-push_cases edges e h.edge h.one) [
+    | inl k ↦ inl (record { edge = h.edge; one = k; of_rule = h.of_rule; is_live = h.is_live })
+    | inr same ↦ inr (ap (λ (x : ListedEdge). x.rule) same ∙ h.of_rule, subst (λ (x : ListedEdge). slice_get live x.next ≡ Some true) (sym same) h.is_live)
+  ]
 
-pub before-more : (count : ℕ) (transitions : List Transition) (before : List (Vec ℕ)) (t : Transition) (old new : Vec ℕ) → AreBefore count transitions before → slice_get before t.to ≡ Some old → new.items ≡ old.items ++ t.from ∷ []
-    → AreBefore count (transitions ++ t ∷ []) (set before t.to new)
-before-more count transitions before t old new are at is = record {
-  many = length-set before t.to new ∙ are.many;
-  all = λ u v one v_at. elim (set_cases before t.to new u.to v v_at) [
-    | inl k ↦ subst (λ (w : Vec ℕ). Contains w.items u.from) k.1 (subst (λ xs. Contains xs u.from) (sym is) (in_new u one k.0))
-    | inr k ↦ elim (Contains-push_cases transitions t u one) [ inl h ↦ are.all u v h k.1 | inr e ↦ absurd (k.0 (ap (λ (x : Transition). x.to) (sym e))) ]
-  ];
-  others = λ to from v v_at one. elim (set_cases before t.to new to v v_at) [
-    | inl k ↦ from_new to from k.0 (subst (λ xs. Contains xs from) is (subst (λ (w : Vec ℕ). Contains w.items from) (sym k.1) one))
-    | inr k ↦ more (are.others to from v k.1 one)
-  ];
-}
-  where
-    in_new : (u : Transition) → Contains (transitions ++ t ∷ []) u → u.to ≡ t.to → Contains (old.items ++ t.from ∷ []) u.from
-    in_new u one same = elim (Contains-push_cases transitions t u one) [
-      | inl h ↦ Contains-append_left old.items (t.from ∷ []) u.from (are.all u old h (subst (λ n. slice_get before n ≡ Some old) (sym same) at))
-      | inr e ↦ subst (λ (x : Transition). Contains (old.items ++ t.from ∷ []) x.from) e (Contains-push old.items t.from)
-    ]
+  more : (rule : ℕ) → (slice_get old rule ≡ Some true) ⊎ Takes edges live rule → (slice_get old rule ≡ Some true) ⊎ Takes (edges ++ e ∷ []) live rule
+  more rule (inl h) = inl h
+  more rule (inr h) = inr (record { edge = h.edge; one = Contains-append_left edges (e ∷ []) h.edge h.one; of_rule = h.of_rule; is_live = h.is_live })
 
-    more : {from to : ℕ} → Leads transitions from to → Leads (transitions ++ t ∷ []) from to
-    more l = record { transition = l.transition; one = Contains-append_left transitions (t ∷ []) l.transition l.one; leaves = l.leaves; enters = l.enters }
+  -- its rule is marked
+  pub mark-rule : e.rule < length marks → slice_get live e.next ≡ Some true → MarksMore (edges ++ e ∷ []) live old (set marks e.rule true)
+  mark-rule low is_live = record {
+    count = length-set marks e.rule true ∙ are.count;
+    each = λ rule within. (
+      λ at. elim (set_cases marks e.rule true rule true at) [
+        | inl k ↦ inr (record { edge = e; one = Contains-push edges e; of_rule = sym k.0; is_live = is_live })
+        | inr k ↦ more rule ((are.each rule within).0 k.1)
+      ],
+      λ h. elim h [
+        | inl before ↦ mark-kept marks e.rule rule ((are.each rule within).1 (inl before))
+        | inr takes ↦ elim (takes_cases rule takes) [
+          | inl k ↦ mark-kept marks e.rule rule ((are.each rule within).1 (inr k))
+          | inr k ↦ subst (λ (n : ℕ). slice_get (set marks e.rule true) n ≡ Some true) k.0 (mark-there marks e.rule low)
+        ]
+      ],
+    );
+  }
 
-    from_new : (to from : ℕ) → to ≡ t.to → Contains (old.items ++ t.from ∷ []) from → Leads (transitions ++ t ∷ []) from to
-    from_new to from same one = elim (Contains-push_cases old.items t.from from one) [
-      | inl h ↦ more (subst (λ n. Leads transitions from n) (sym same) (are.others t.to from old at h))
-      | inr e ↦ record { transition = t; one = Contains-push transitions t; leaves = e; enters = sym same }
-    ]
+  -- nothing is marked
+  pub mark-nothing : (e.rule < length marks → slice_get live e.next ≡ Some true → ⊥) → MarksMore (edges ++ e ∷ []) live old marks
+  mark-nothing other = record {
+    count = are.count;
+    each = λ rule within. (
+      λ at. more rule ((are.each rule within).0 at),
+      λ h. elim h [
+        | inl before ↦ (are.each rule within).1 (inl before)
+        | inr takes ↦ elim (takes_cases rule takes) [
+          | inl k ↦ (are.each rule within).1 (inr k)
+          | inr k ↦ absurd (other (let same = k.0 in let size = are.count in omega (arith, same, within, size)) k.1)
+        ]
+      ],
+    );
+  }
+
+-- at first nothing more is marked
+pub marks_same : (live marks : List Bool) → MarksMore [] live marks marks
+marks_same live marks = record { count = refl; each = λ rule within. (λ h. inl h, λ h. elim h [ inl before ↦ before | inr takes ↦ absurd (omega (arith, takes.one.1)) ]) }
+
+-- ---- The rules of all states
+
+-- those of one state more
+module _ {S : Type 0} (f : FoundStates S) (live : List Bool) (end rules : ℕ) (own : Expanded) (at : slice_get f.expanded.items end ≡ Some own) (old : List Bool) (are : AreMarkedBy f live end rules old) where
+  last_or_below : (place : ℕ) → place < end + 1 → (place < end) ⊎ (place ≡ end)
+  last_or_below place h = elim (three_ways place end) [ inl k ↦ inl k | inr k ↦ elim k [ inl e ↦ inr e | inr g ↦ absurd (omega (arith, h, g)) ] ]
+
+  pub marked_next : (new : List Bool) → MarksMore (edges_by f.contexts own) live old new → AreMarkedBy f live (end + 1) rules new
+  marked_next new marks = record {
+    count = marks.count ∙ are.count;
+    each = λ rule within. (
+      λ h. elim ((marks.each rule (low rule within)).0 h) [
+        | inl before ↦ (let b = (are.each rule within).0 before in record { place = b.place; low = (let less = b.low in omega (arith, less)); edge = b.edge; has = b.has; of_rule = b.of_rule; is_live = b.is_live })
+        | inr t ↦ record { place = end; low = omega arith; edge = t.edge; has = record { own = own; at = at; one = t.one }; of_rule = t.of_rule; is_live = t.is_live }
+      ],
+      λ b. (marks.each rule (low rule within)).1 (elim (last_or_below b.place b.low) [
+        | inl less ↦ inl ((are.each rule within).1 (record { place = b.place; low = less; edge = b.edge; has = b.has; of_rule = b.of_rule; is_live = b.is_live }))
+        | inr same ↦ inr (record { edge = b.edge; one = one_of f end own at b.edge (subst (λ (k : ℕ). HasEdge f k b.edge) same b.has); of_rule = b.of_rule; is_live = b.is_live })
+      ]),
+    );
+  }
+    where
+      low : (rule : ℕ) → rule < rules → rule < length old
+      low rule within = (let size = are.count in omega (arith, within, size))
 
 -- ---- The places that have a mark
 

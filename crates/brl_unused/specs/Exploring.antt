@@ -1,70 +1,61 @@
--- Internal. What is found of a machine's states, and of the steps between them.
+-- Internal. What is found of a machine's states, and of their steps.
 use Rattle.std.specs.Prelude.{ℕ, ◌≡◌, ◌+◌, ◌<◌, ◌≤◌, ◌⊎◌, ◌↔◌, Bool, true, List, [], ◌∷◌, ◌++◌, Some, length, slice_get}
 use Rattle.std.specs.List.{Contains}
 use Rattle.brl_closure.specs.Reached.{Reached}
-use Rattle.brl_closure.specs.SearchView.{Stays}
-use Rattle.brl_pairs.specs.Runs.{Behaviour, IsListed}
-use Rattle.brl_pairs.specs.declared.step.Step.{Step}
-use Rattle.brl_unused.specs.declared.graph.Transition.{Transition}
-use Rattle.brl_unused.specs.declared.taken.FoundStates.{FoundStates}
+use Rattle.brl_contexts.specs.Contexts.{AreContexts, AreEdgesAt, IsEmpty}
+use Rattle.brl_contexts.specs.declared.contexts.Expanded.{Expanded}
+use Rattle.brl_pairs.specs.Based.{Sharing}
+use Rattle.brl_pairs.specs.Members.{HaveOneNumber}
+use Rattle.brl_pairs.specs.Runs.{Behaviour}
+use Rattle.brl_pairs.specs.declared.edge.ListedEdge.{ListedEdge}
+use Rattle.brl_unused.specs.Graph.{HasEdge}
+use Rattle.brl_unused.specs.declared.found.FoundStates.{FoundStates}
 
--- the state is added at the end, or nothing is
-abbrev pub AddsAtMost : {S : Type 0} → List S → S → List S → Type 0
-AddsAtMost old state new = (new ≡ old) ⊎ (new ≡ old ++ state ∷ [])
+-- the number is added at the end, or nothing is
+abbrev pub AddsAtMost : List ℕ → ℕ → List ℕ → Type 0
+AddsAtMost old number new = (new ≡ old) ⊎ (new ≡ old ++ number ∷ [])
 
--- the transition is a step between two of these states
-pub record IsStepOf {S : Type 0} (m : Behaviour S) (states : List S) (t : Transition) : Type 0 where
-  pub state : S
-  pub leaves : slice_get states t.from ≡ Some state
-  pub step : Step S
-  pub listed : IsListed (m.steps state) step
-  pub of_rule : step.rule ≡ t.rule
-  pub enters : slice_get states t.to ≡ Some step.next
+-- both mark the same numbers
+abbrev pub MarkSame : List Bool → List Bool → Type 0
+MarkSame old new = (number : ℕ) → (slice_get old number ≡ Some true) ↔ (slice_get new number ≡ Some true)
 
--- each state is reached, and each transition is a step between two states
-pub record AreFound {S : Type 0} (m : Behaviour S) (f : FoundStates S) : Type 0 where
-  pub reached : (number : ℕ) (s : S) → slice_get f.states number ≡ Some s → Reached m s
-  pub steps : (t : Transition) → Contains f.transitions.items t → IsStepOf m f.states t
+-- just these numbers are marked, and each is there once
+pub record MarksAre (numbers : List ℕ) (marks : List Bool) : Type 0 where
+  pub each : (number : ℕ) → Contains numbers number ↔ (slice_get marks number ≡ Some true)
+  pub once : HaveOneNumber numbers
 
--- one of the transitions is this step, from the state with this number
-pub record HasTransition {S : Type 0} (f : FoundStates S) (number : ℕ) (x : Step S) : Type 0 where
-  pub transition : Transition
-  pub one : Contains f.transitions.items transition
-  pub leaves : transition.from ≡ number
-  pub of_rule : transition.rule ≡ x.rule
-  pub enters : slice_get f.states transition.to ≡ Some x.next
+-- numbers are added at the end, of states to which these edges lead
+pub record Enters (edges : List ListedEdge) (old new : List ℕ) : Type 0 where
+  pub more : List ℕ
+  pub adds : new ≡ old ++ more
+  pub entered : (number : ℕ) → Contains more number → (e : ListedEdge) × Contains edges e × (e.next ≡ number)
 
--- each step of the state with this number is one of the transitions
-abbrev pub IsExpanded : {S : Type 0} → Behaviour S → FoundStates S → ℕ → Type 0
-IsExpanded {S} m f number = (s : S) (x : Step S) → slice_get f.states number ≡ Some s → IsListed (m.steps s) x → HasTransition f number x
+-- nothing is found, and nothing is known
+pub record IsNothing {S : Type 0} (f : FoundStates S) : Type 0 where
+  pub contexts : IsEmpty f.contexts
+  pub order : f.order.items ≡ []
+  pub marks : f.marks.items ≡ []
+  pub expanded : f.expanded.items ≡ []
 
--- what was found stays found
-pub record Extends {S : Type 0} (old new : FoundStates S) : Type 0 where
-  pub states : Stays old.states new.states
-  pub more : length old.states ≤ length new.states
-  pub transitions : (t : Transition) → Contains old.transitions.items t → Contains new.transitions.items t
+-- each number is of a state that is reached
+abbrev pub AreReached : {S : Type 0} → Behaviour S → List S → List ℕ → Type 0
+AreReached {S} m states numbers = (number : ℕ) → Contains numbers number → (s : S) × (slice_get states number ≡ Some s) × Reached m s
 
--- the start is the first state, and each step of each state is one of the transitions
-pub record AreAllFound {S : Type 0} (m : Behaviour S) (f : FoundStates S) : Type 0 where
-  pub found : AreFound m f
-  pub start : slice_get f.states 0 ≡ Some m.start
-  pub expanded : (number : ℕ) → number < length f.states → IsExpanded m f number
+-- The start is found, and only states are that are reached. Of the first of them is known what
+-- their steps are, and the states to which these lead are found.
+pub record AreFound {S D : Type 0} (m : Behaviour S) (h : Sharing S D) (f : FoundStates S) : Type 0 where
+  pub contexts : AreContexts m h f.contexts
+  pub marks : MarksAre f.order.items f.marks.items
+  pub reached : AreReached m f.contexts.named.states f.order.items
+  pub start : (number : ℕ) × Contains f.order.items number × (slice_get f.contexts.named.states number ≡ Some m.start)
+  pub few : length f.expanded.items ≤ length f.order.items
+  pub edges : (place number : ℕ) (own : Expanded) → slice_get f.order.items place ≡ Some number → slice_get f.expanded.items place ≡ Some own
+      → AreEdgesAt m f.contexts number own
+  pub entered : (place : ℕ) (e : ListedEdge) → HasEdge f place e → Contains f.order.items e.next
 
--- the limit is passed, by no more than one, and each state is reached
+-- the limit is passed, by no more than one, and each state that is found is reached, and found once
 pub record HavePassed {S : Type 0} (m : Behaviour S) (limit : ℕ) (f : FoundStates S) : Type 0 where
-  pub passed : limit < length f.states
-  pub by_one : length f.states ≤ limit + 1
-  pub reached : (number : ℕ) (s : S) → slice_get f.states number ≡ Some s → Reached m s
-
--- a transition of this rule enters a live state
-pub record Takes (transitions : List Transition) (live : List Bool) (rule : ℕ) : Type 0 where
-  pub transition : Transition
-  pub one : Contains transitions transition
-  pub of_rule : transition.rule ≡ rule
-  pub is_live : slice_get live transition.to ≡ Some true
-
--- a rule with a number below this one is marked where some transition by it enters a live state,
--- and no other is
-pub record AreMarkedBy (transitions : List Transition) (live : List Bool) (rules : ℕ) (marks : List Bool) : Type 0 where
-  pub count : length marks ≡ rules
-  pub each : (rule : ℕ) → rule < rules → (slice_get marks rule ≡ Some true) ↔ Takes transitions live rule
+  pub passed : limit < length f.order.items
+  pub by_one : length f.order.items ≤ limit + 1
+  pub reached : AreReached m f.contexts.named.states f.order.items
+  pub once : HaveOneNumber f.order.items

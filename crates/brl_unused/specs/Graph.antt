@@ -1,22 +1,34 @@
--- The transitions of a machine by the numbers of its states, and the states from which a final
--- state is reached. The project's own choice.
+-- The states that are found, and those from which a final state is reached. The project's own
+-- choice.
 use Rattle.std.specs.Prelude.{ℕ, ◌≡◌, ◌<◌, ◌↔◌, Bool, true, List, Some, length, slice_get}
 use Rattle.std.specs.List.{Contains}
-use Rattle.brl_unused.specs.declared.graph.Transition.{Transition}
+use Rattle.brl_contexts.specs.Contexts.{IsWithin, edges_by}
+use Rattle.brl_contexts.specs.declared.contexts.Expanded.{Expanded}
+use Rattle.brl_pairs.specs.declared.edge.ListedEdge.{ListedEdge}
+use Rattle.brl_unused.specs.declared.found.FoundStates.{FoundStates}
 
--- the states of each transition have numbers below this one
-abbrev pub AreWithin : ℕ → List Transition → Type 0
-AreWithin count transitions = (t : Transition) → Contains transitions t → (t.from < count) × (t.to < count)
+-- the state that is found at this place is expanded, and this is one of its edges
+pub record HasEdge {S : Type 0} (f : FoundStates S) (place : ℕ) (e : ListedEdge) : Type 0 where
+  pub own : Expanded
+  pub at : slice_get f.expanded.items place ≡ Some own
+  pub one : Contains (edges_by f.contexts own) e
 
--- a final state is live, and so is each state from which a transition leads to a live one
-pub data IsLive (ends : List Bool) (transitions : List Transition) : ℕ → Type 0 where
-  final : {state : ℕ} → slice_get ends state ≡ Some true → IsLive ends transitions state
-  step : {t : Transition} → Contains transitions t → IsLive ends transitions t.to → IsLive ends transitions t.from
+-- all states that are found are expanded, and they and those to which edges lead are known
+pub record IsWhole {S : Type 0} (f : FoundStates S) : Type 0 where
+  pub count : length f.expanded.items ≡ length f.order.items
+  pub known : (number : ℕ) → Contains f.order.items number → number < length f.contexts.named.states
+  pub within : (place : ℕ) (own : Expanded) → slice_get f.expanded.items place ≡ Some own → IsWithin f.contexts own
+  pub nexts : (place : ℕ) (e : ListedEdge) → HasEdge f place e → e.next < length f.contexts.named.states
+
+-- a final state is live, and so is each state of which an edge leads to a live one
+pub data IsLive {S : Type 0} (ends : List Bool) (f : FoundStates S) : ℕ → Type 0 where
+  final : {number : ℕ} → slice_get ends number ≡ Some true → IsLive ends f number
+  step : {place number : ℕ} {e : ListedEdge} → slice_get f.order.items place ≡ Some number → HasEdge f place e → IsLive ends f e.next → IsLive ends f number
 
 -- just the live states are marked
-pub record AreLive (ends : List Bool) (transitions : List Transition) (live : List Bool) : Type 0 where
+pub record AreLive {S : Type 0} (ends : List Bool) (f : FoundStates S) (live : List Bool) : Type 0 where
   pub count : length live ≡ length ends
-  pub each : (state : ℕ) → (slice_get live state ≡ Some true) ↔ IsLive ends transitions state
+  pub each : (number : ℕ) → (slice_get live number ≡ Some true) ↔ IsLive ends f number
 
 -- each number is less than those after it
 abbrev pub AreAscending : List ℕ → Type 0

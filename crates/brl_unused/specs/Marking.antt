@@ -1,48 +1,67 @@
--- Internal. How live states are marked: backwards, from the final states on.
-use Rattle.std.specs.Prelude.{ℕ, ◌≡◌, ◌+◌, ◌⊎◌, ◌++◌, Bool, not, true, List, Some, count_by, length, slice_get}
-use Rattle.std.specs.Global.{Vec}
+-- Internal. How live states are marked, in rounds, and then the rules of edges that lead to them.
+use Rattle.std.specs.Prelude.{ℕ, ◌≡◌, ◌<◌, ◌⊎◌, ◌↔◌, Bool, not, true, List, Some, count_by, length, slice_get}
 use Rattle.std.specs.List.{Contains}
-use Rattle.brl_unused.specs.Graph.{IsLive}
-use Rattle.brl_unused.specs.declared.graph.Transition.{Transition}
+use Rattle.brl_pairs.specs.declared.edge.ListedEdge.{ListedEdge}
+use Rattle.brl_unused.specs.Graph.{HasEdge, IsLive}
+use Rattle.brl_unused.specs.declared.found.FoundStates.{FoundStates}
 
--- a transition leads from one state to another
-pub record Leads (transitions : List Transition) (from to : ℕ) : Type 0 where
-  pub transition : Transition
-  pub one : Contains transitions transition
-  pub leaves : transition.from ≡ from
-  pub enters : transition.to ≡ to
+-- ---- Live states
 
--- for each of this number of states the list has those from which one of these transitions leads to
--- it
-pub record AreBefore (count : ℕ) (transitions : List Transition) (before : List (Vec ℕ)) : Type 0 where
-  pub many : length before ≡ count
-  pub all : (t : Transition) (states : Vec ℕ) → Contains transitions t → slice_get before t.to ≡ Some states → Contains states.items t.from
-  pub others : (to from : ℕ) (states : Vec ℕ) → slice_get before to ≡ Some states → Contains states.items from → Leads transitions from to
+-- one of these edges leads to a marked state
+pub record LeadToLive (edges : List ListedEdge) (live : List Bool) : Type 0 where
+  pub edge : ListedEdge
+  pub one : Contains edges edge
+  pub is_live : slice_get live edge.next ≡ Some true
 
--- live states are marked, the final ones among them, and each marked one is queued
-pub record AreMarked (ends : List Bool) (transitions : List Transition) (live : List Bool) (queue : List ℕ) : Type 0 where
-  pub many : length live ≡ length ends
-  pub finals : (state : ℕ) → slice_get ends state ≡ Some true → slice_get live state ≡ Some true
-  pub live_ones : (state : ℕ) → slice_get live state ≡ Some true → IsLive ends transitions state
-  pub queued : (state : ℕ) → slice_get live state ≡ Some true → Contains queue state
-  pub marked : (state : ℕ) → Contains queue state → slice_get live state ≡ Some true
+-- an edge of the state at this place leads to a marked state
+pub record LeadsOn {S : Type 0} (f : FoundStates S) (live : List Bool) (place : ℕ) : Type 0 where
+  pub edge : ListedEdge
+  pub has : HasEdge f place edge
+  pub is_live : slice_get live edge.next ≡ Some true
+
+-- live states are marked, the final ones among them
+pub record AreMarked {S : Type 0} (ends : List Bool) (f : FoundStates S) (live : List Bool) : Type 0 where
+  pub count : length live ≡ length ends
+  pub finals : (number : ℕ) → slice_get ends number ≡ Some true → slice_get live number ≡ Some true
+  pub live_ones : (number : ℕ) → slice_get live number ≡ Some true → IsLive ends f number
 
 -- how many states aren't marked
 abbrev pub unmarked : List Bool → ℕ
 unmarked live = count_by not live
 
--- these states were marked, and those that weren't before are queued last
-pub record Marks (states : List ℕ) (live : List Bool) (queue : List ℕ) (live' : List Bool) (queue' : List ℕ) : Type 0 where
-  pub many : length live' ≡ length live
-  pub more : List ℕ
-  pub queue_is : queue' ≡ queue ++ more
-  pub kept : (state : ℕ) → slice_get live state ≡ Some true → slice_get live' state ≡ Some true
-  pub all : (state : ℕ) → Contains states state → slice_get live' state ≡ Some true
-  pub only : (state : ℕ) → slice_get live' state ≡ Some true → (slice_get live state ≡ Some true) ⊎ (Contains states state × Contains more state)
-  pub marked : (state : ℕ) → Contains more state → slice_get live' state ≡ Some true
-  pub fewer : unmarked live' + length queue' ≡ unmarked live + length queue
+-- the state at this place is marked if an edge of it leads to a marked state
+abbrev pub IsClosedAt : {S : Type 0} → FoundStates S → List Bool → ℕ → Type 0
+IsClosedAt f live place = (number : ℕ) → slice_get f.order.items place ≡ Some number → LeadsOn f live place → slice_get live number ≡ Some true
 
--- the states before those that were taken from the queue are marked
-abbrev pub AreTaken : List (Vec ℕ) → List Bool → List ℕ → Type 0
-AreTaken before live taken =
-    (to from : ℕ) (states : Vec ℕ) → Contains taken to → slice_get before to ≡ Some states → Contains states.items from → slice_get live from ≡ Some true
+-- each state that is found is marked so
+abbrev pub IsClosed : {S : Type 0} → FoundStates S → List Bool → Type 0
+IsClosed f live = (place : ℕ) → IsClosedAt f live place
+
+-- ---- Rules
+
+-- one of these edges is of this rule and leads to a live state
+pub record Takes (edges : List ListedEdge) (live : List Bool) (rule : ℕ) : Type 0 where
+  pub edge : ListedEdge
+  pub one : Contains edges edge
+  pub of_rule : edge.rule ≡ rule
+  pub is_live : slice_get live edge.next ≡ Some true
+
+-- marked are those that were, and the rules of these edges that lead to live states
+pub record MarksMore (edges : List ListedEdge) (live old new : List Bool) : Type 0 where
+  pub count : length new ≡ length old
+  pub each : (rule : ℕ) → rule < length old → (slice_get new rule ≡ Some true) ↔ ((slice_get old rule ≡ Some true) ⊎ Takes edges live rule)
+
+-- an edge of one of the first states, this many, is of this rule and leads to a live state
+pub record TakesBelow {S : Type 0} (f : FoundStates S) (live : List Bool) (end rule : ℕ) : Type 0 where
+  pub place : ℕ
+  pub low : place < end
+  pub edge : ListedEdge
+  pub has : HasEdge f place edge
+  pub of_rule : edge.rule ≡ rule
+  pub is_live : slice_get live edge.next ≡ Some true
+
+-- a rule with a number below this one is marked where some edge of it, of one of the first states,
+-- leads to a live state, and no other is
+pub record AreMarkedBy {S : Type 0} (f : FoundStates S) (live : List Bool) (end rules : ℕ) (marks : List Bool) : Type 0 where
+  pub count : length marks ≡ rules
+  pub each : (rule : ℕ) → rule < rules → (slice_get marks rule ≡ Some true) ↔ TakesBelow f live end rule

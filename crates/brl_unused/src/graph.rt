@@ -1,48 +1,13 @@
-//! Transitions between states by their numbers, and the states from which a final state is reached.
-ghost use Rattle.std.specs.Prelude.{◌≡◌, ◌<◌, ◌^◌, ◌↔◌, ℕ, [], true, Some, IfOk, OnOk, length, slice_get};
+//! Which of the states that are found are live: from them a final state is reached.
+ghost use Rattle.std.specs.Prelude.{◌≡◌, ◌<◌, ◌≤◌, ◌^◌, ◌↔◌, ℕ, Bool, List, IfOk, IsFalse, IsTrue, OnOk, Some, length, slice_get};
 ghost use Rattle.std.specs.List.{Contains};
-ghost use Rattle.brl_unused.specs.Graph.{AreAscending, AreLive, AreWithin};
-ghost use Rattle.brl_unused.specs.Marking.{AreBefore, Marks};
+ghost use Rattle.brl_pairs.specs.declared.edge.ListedEdge.{ListedEdge as EdgeValue};
+ghost use Rattle.brl_unused.specs.Graph.{AreAscending, AreLive, IsWhole};
+ghost use Rattle.brl_unused.specs.Marking.{AreMarked, IsClosed, IsClosedAt, LeadToLive, LeadsOn, unmarked};
 
+use crate::found::FoundStates;
+use brl_pairs::{Key, ListedEdge};
 use std::alloc::{AllocError, Global};
-
-/// A step by numbers.
-#[derive(Clone, Copy)]
-pub struct Transition {
-    /// The number of the state that it leaves, from 0.
-    pub from: u32,
-    /// The number of the rule that it applies.
-    pub rule: u32,
-    /// The number of the state that it enters.
-    pub to: u32,
-}
-
-/// As many empty lists.
-fn empty_lists(alloc: Global, count: usize) -> Result<Vec<Vec<u32>>, AllocError>
-    ensures { IfOk result (λ lists. AreBefore count [] lists.items) }
-{
-    let mut lists = Vec::with_capacity(alloc, count)?;
-    for _ in 0..count {
-        lists.push(Vec::new(alloc))?;
-    }
-    Ok(lists)
-}
-
-/// For each state those from which a transition leads to it.
-fn states_before(
-    alloc: Global,
-    count: usize,
-    transitions: &[Transition],
-) -> Result<Vec<Vec<u32>>, AllocError>
-    requires { AreWithin count transitions.now }
-    ensures { IfOk result (λ before. AreBefore count transitions.now before.items) }
-{
-    let mut before = empty_lists(alloc, count)?;
-    for transition in transitions {
-        before[transition.to as usize].push(transition.from)?;
-    }
-    Ok(before)
-}
 
 /// The places that have this mark, ascending.
 pub fn places_of(alloc: Global, marks: &[bool], mark: bool) -> Result<Vec<u32>, AllocError>
@@ -59,39 +24,104 @@ pub fn places_of(alloc: Global, marks: &[bool], mark: bool) -> Result<Vec<u32>, 
     Ok(places)
 }
 
-/// Marks these states and queues those that weren't marked.
-fn mark(states: &[u32], live: &mut Vec<bool>, queue: &mut Vec<u32>) -> Result<(), AllocError>
-    requires { (state : ℕ) → Contains states.now state → state < length live.old.items }
-    ensures { OnOk result (Marks states.now live.old.items queue.old.items live.new.items queue.new.items) }
+/// Whether one of these edges leads to a live state.
+fn lead_to_live(edges: &[ListedEdge], live: &[bool]) -> bool
+    requires { (e : EdgeValue) → Contains edges.now e → e.next < length live.now }
+    ensures { IsTrue result ↔ LeadToLive edges.now live.now }
 {
-    for state in states {
-        if !live[*state as usize] {
-            live[*state as usize] = true;
-            queue.push(*state)?;
+    for edge in edges {
+        if live[edge.next as usize] {
+            return true;
         }
     }
-    Ok(())
+    false
 }
 
-/// Marks the states from which a final state is reached: backwards from the final ones, each
-/// transition once.
-pub fn live_states(
+/// Whether an edge of the state at this place leads to a live state.
+fn leads_on<S: Key>(
+    alloc: Global,
+    found: &FoundStates<S>,
+    place: usize,
+    live: &[bool],
+) -> Result<bool, AllocError>
+    requires whole { IsWhole found.now }
+    requires within { place < length found.now.order.items }
+    requires live { length live.now ≡ length found.now.contexts.named.states }
+    ensures { IfOk result (λ leads. IsTrue leads ↔ LeadsOn found.now live.now place) }
+{
+    let edges = found.contexts.edges(alloc, &found.expanded[place])?;
+    Ok(lead_to_live(edges.as_slice(), live))
+}
+
+/// Marks the state at this place if one of its edges leads to a live state. True where it wasn't
+/// marked and is now.
+fn mark_at<S: Key>(
+    alloc: Global,
+    found: &FoundStates<S>,
+    place: usize,
+    live: &mut Vec<bool>,
+) -> Result<bool, AllocError>
+    requires whole { IsWhole found.now }
+    requires within { place < length found.now.order.items }
+    requires live { length live.old.items ≡ length found.now.contexts.named.states }
+    ensures marked { (ends : List Bool) → OnOk result (AreMarked ends found.now live.old.items → AreMarked ends found.now live.new.items) }
+    ensures count { OnOk result (length live.new.items ≡ length live.old.items) }
+    ensures fewer { IfOk result (λ more. IsTrue more → unmarked live.new.items < unmarked live.old.items) }
+    ensures same { IfOk result (λ more. IsFalse more → live.new.items ≡ live.old.items) }
+    ensures closed { IfOk result (λ more. IsFalse more → IsClosedAt found.now live.old.items place) }
+{
+    let number = found.order[place] as usize;
+    if live[number] {
+        return Ok(false);
+    }
+    let leads = leads_on(alloc, found, place, live.as_slice())?;
+    if leads {
+        live[number] = true;
+    }
+    Ok(leads)
+}
+
+/// Marks states of which an edge leads to a live state: one round over all that are found, the last
+/// first. False where no state is marked that wasn't.
+fn mark_round<S: Key>(
+    alloc: Global,
+    found: &FoundStates<S>,
+    live: &mut Vec<bool>,
+) -> Result<bool, AllocError>
+    requires whole { IsWhole found.now }
+    requires live { length live.old.items ≡ length found.now.contexts.named.states }
+    ensures marked { (ends : List Bool) → OnOk result (AreMarked ends found.now live.old.items → AreMarked ends found.now live.new.items) }
+    ensures count { OnOk result (length live.new.items ≡ length live.old.items) }
+    ensures most { OnOk result (unmarked live.new.items ≤ unmarked live.old.items) }
+    ensures fewer { IfOk result (λ more. IsTrue more → unmarked live.new.items < unmarked live.old.items) }
+    ensures closed { IfOk result (λ more. IsFalse more → IsClosed found.now live.new.items) }
+{
+    let mut more = false;
+    let mut place = found.order.len();
+    while place > 0 {
+        place -= 1;
+        if mark_at(alloc, found, place, live)? {
+            more = true;
+        }
+    }
+    Ok(more)
+}
+
+/// Marks the states from which a final state is reached: backwards from the final ones, in rounds,
+/// until one marks no more. `ends` says which of the known states are final.
+pub fn live_states<S: Key>(
     alloc: Global,
     ends: &[bool],
-    transitions: &[Transition],
+    found: &FoundStates<S>,
 ) -> Result<Vec<bool>, AllocError>
-    requires few { length ends.now < 2 ^ 32 }
-    requires within { AreWithin (length ends.now) transitions.now }
-    ensures { IfOk result (λ live. AreLive ends.now transitions.now live.items) }
+    requires whole { IsWhole found.now }
+    requires count { length ends.now ≡ length found.now.contexts.named.states }
+    ensures { IfOk result (λ live. AreLive ends.now found.now live.items) }
 {
-    let before = states_before(alloc, ends.len(), transitions)?;
     let mut live = Vec::from_slice(alloc, ends)?;
-    let mut queue = places_of(alloc, ends, true)?;
-    let mut next = 0;
-    while next < queue.len() {
-        let state = queue[next] as usize;
-        mark(before[state].as_slice(), &mut live, &mut queue)?;
-        next += 1;
+    let mut more = true;
+    while more {
+        more = mark_round(alloc, found, &mut live)?;
     }
     Ok(live)
 }

@@ -1,6 +1,6 @@
 use Rattle.std.proofs.Common.{take}
-use Rattle.brl_unused.specs.Exploring.{AreMarkedBy}
+use Rattle.brl_unused.specs.Marking.{MarksMore}
 use Rattle.brl_unused.proofs.taken.mark_rules.Given as goal
 
-abbrev pub invariant-loop-transition : goal.invariant-loop-transition
-invariant-loop-transition l = AreMarkedBy (take l.transition-index l.transitions) l.live l.rules l.marks.items
+abbrev pub invariant-loop-edge : goal.invariant-loop-edge
+invariant-loop-edge l = MarksMore (take l.edge-index l.edges) l.live l.initial.marks.items l.marks.items
