@@ -114,8 +114,8 @@ fn judge_read<W: Progress>(
     }
 }
 
-/// Judges the certificate that bytes spell for a table, for the texts that use none of some
-/// characters, but for splits that are excused. An acceptance gives the numbers of states and pairs
+/// Judges a certificate for a table without some characters and but for excused splits: where it is
+/// accepted, texts with the same cells agree. An acceptance gives the numbers of states and pairs
 /// that the certificate lists. Then any two texts over the table's other characters that the table
 /// translates to the same cells are the same step by step but for exchanges, to their ends or up to
 /// a place where they go on with two steps of an accepted pair of rules; where nothing is excused
@@ -173,14 +173,15 @@ fn judge_all_texts(
     judge_table(alloc, table, cert, scope)
 }
 
-/// Judges a certificate for the table that the file at the path `root` defines. An acceptance gives
-/// the numbers of states and pairs that the certificate lists. Then any two texts over the table's
-/// characters that the table translates to the same cells are equal, whatever their length.
+/// Judges a certificate for the table of some files: where it is accepted the table is unambiguous,
+/// and each valid one is accepted; else the first stage refuses. An acceptance gives the numbers of
+/// states and pairs that the certificate lists. Then any two texts over the table's characters that
+/// the table translates to the same cells are equal, whatever their length.
 ///
 /// Otherwise the fault is that of the first stage that refuses: `NoTable` where the files define no
 /// table; `Cert` where the bytes spell no certificate; `OldVersion` where the certificate is of
-/// version 1 or 2 and the table has word capitals; `Wide` where the certificate is of version 1
-/// and the table has no window machine; `Refused` where the certificate's states and pairs aren't
+/// version 1 or 2 and the table has word capitals; `Wide` where the certificate is of version 1 and
+/// the table has no window machine; `Refused` where the certificate's states and pairs aren't
 /// closed for the machine of its version.
 pub fn judge<S: Source>(
     alloc: Global,

@@ -16,8 +16,8 @@ pub struct Met {
     pub bar: u32,
 }
 
-/// The forms that the bars of a state meet, bar by bar. `reads` has what the forms read, by their
-/// numbers, and `order` has these in order.
+/// The forms that the bars of a state meet, each with the bar, bar by bar. `reads` has what the
+/// forms read, by their numbers, and `order` has these in order.
 pub fn all_met<B: Based>(
     alloc: Global,
     machine: &B,

@@ -52,8 +52,8 @@ impl Clash {
     }
 }
 
-/// The clash of two texts, if they differ and the table translates them to the same cells.
-/// `UnknownChar` where the table doesn't define a character of one; the left text comes first.
+/// The clash of two texts, exactly where they differ and have the same cells; `UnknownChar` for a
+/// character that isn't defined, of the left text first.
 pub fn confirm(
     alloc: Global,
     table: &Table,
@@ -81,7 +81,8 @@ pub fn confirm(
     }))
 }
 
-/// The clash of two texts that are known to clash. One of them is translated, for the cells.
+/// The clash of two texts that are known to clash, with their cells. One of them is translated, for
+/// the cells.
 pub fn clash_of(
     alloc: Global,
     table: &Table,

@@ -6,8 +6,8 @@ ghost use Rattle.brl_forward.specs.Trace.{step_at, steps_from, trace_of};
 
 use brl_rules::choice_laws;
 
-/// A trace, one step at a time. From a position on it is the step there, then the steps from after
-/// the step's last character on. The cells of all steps, joined, are the translation.
+/// A trace goes step by step, and its joined cells are the translation. From a position on it is
+/// the step there, then the steps from after the step's last character on.
 pub fn trace_laws()
     ensures position { (t : TableView) (text : List ℕ) (i : ℕ) → i < length text →
         steps_from t text (length text) i

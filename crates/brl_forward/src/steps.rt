@@ -30,7 +30,7 @@ pub struct Traced {
     pub cells: Cells,
 }
 
-/// The steps of a text's translation, in order. `UnknownChar` where the table doesn't define a
+/// The steps of a text's translation, in order; `UnknownChar` where the table doesn't define a
 /// character.
 pub fn trace(
     alloc: Global,

@@ -14,7 +14,8 @@ use brl_failure::Failure;
 use brl_rules::{Info, Table, translation_laws};
 use std::alloc::{AllocError, Global};
 
-/// The translation of a text to cells. `UnknownChar` where the table doesn't define a character.
+/// The cells of a text; `UnknownChar` exactly where the table doesn't define a character, with the
+/// first such.
 pub fn translate(
     alloc: Global,
     table: &Table,

@@ -37,11 +37,12 @@ pub trait Based: Machine {
     /// What a contract sees of what states share.
     ghost sharing: { Self → Sharing Self.State Self.More };
 
-    /// What a base says of a state's steps. No memory is allocated.
+    /// A law: a state's steps are its base's, by gates and bars, and those that no bar meets stay.
+    /// No memory is allocated.
     fn law(&self)
         ensures { KeepsSharing Self.State.eq (Self.behaviour self.now) (sharing self.now) };
 
-    /// The base of a state. `None` where the machine says of none; then nothing else here counts
+    /// The base of a state; `None` where the machine says of none. Then nothing else here counts
     /// for the state, and only `moves` lists its steps. `AllocError` if memory runs out.
     fn base(&self, alloc: Global, state: &Self::State) -> Result<Option<Self::State>, AllocError>
         ensures { IfOk result (λ base. base ≡ (sharing self.now).base state.now) };
@@ -54,7 +55,8 @@ pub trait Based: Machine {
     fn opens(&self, state: &Self::State, gate: u8) -> bool
         ensures { result ≡ (sharing self.now).opens state.now gate };
 
-    /// The characters of the state's bar with this number, from 0. No memory is allocated.
+    /// The characters of the state's bar with this number, from 0; none where there is none. No
+    /// memory is allocated.
     fn bar<'s>(&self, state: &'s Self::State, number: usize) -> Option<&'s Chars>
         ensures { option_copied result ≡ slice_get ((sharing self.now).bars state.now) number };
 

@@ -6,8 +6,9 @@ ghost use Rattle.brl_pairs.specs.declared.step.Step.{Step as StepValue};
 
 use crate::Based;
 
-/// A state has exactly what becomes of the steps of its base. So a step of the base is the state's
-/// where the state opens its gate, and no bar of the state meets what it reads.
+/// A state has exactly what becomes of the steps of its base, and a step as it is where no bar
+/// meets it. So a step of the base is the state's where the state opens its gate, and no bar of the
+/// state meets what it reads.
 pub fn based_law<M: Based>(machine: &M)
     ensures each { (s base : M.State) (z : StepValue M.State) → (M.sharing machine.now).base s ≡ Some base →
         IsListed ((M.behaviour machine.now).steps s) z ↔ IsPast (M.sharing machine.now) s ((M.behaviour machine.now).steps base) z }

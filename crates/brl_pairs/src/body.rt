@@ -33,9 +33,9 @@ impl<S: Key> Body<S> {
         Body { states, pairs }
     }
 
-    /// The body of these states and pairs. `None` exactly where there are more than 4,294,967,295
-    /// states or pairs, a pair names a state that doesn't exist, or a lead has more than 1,024
-    /// cells.
+    /// The body of these states and pairs; `None` exactly where numbers or leads are out of range.
+    /// So it is where there are more than 4,294,967,295 states or pairs, a pair names a state that
+    /// doesn't exist, or a lead has more than 1,024 cells.
     pub fn from_parts(states: Members<S>, pairs: Members<Pair<u32>>) -> Option<Body<S>>
         ensures made { IsSome result ↔ IsInRange (listed states pairs) }
         ensures parts { IfSome result (λ body. body ≡ listed states pairs) }
@@ -64,7 +64,7 @@ impl<S: Key> Body<S> {
         self.pairs.len() as u32
     }
 
-    /// The states.
+    /// The states, no two of them equal.
     pub fn states(&self) -> &[S]
         ensures states { result.now ≡ self.now.states }
         ensures distinct { IsDistinct S.eq self.now.states }

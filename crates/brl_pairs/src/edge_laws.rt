@@ -18,8 +18,8 @@ pub fn edges_law<M: Machine>(machine: &M)
     let _ = machine.start();
 }
 
-/// What needn't be tested: `advance` answers `Apart` exactly for cells that don't match the lead,
-/// and the run behind makes no pair by an edge with such cells, so no pair of its is missing.
+/// `advance` answers `Apart` exactly for cells that don't match the lead, and the run behind makes
+/// no pair by an edge with such cells.
 pub fn unmatched_law()
     ensures apart { (lead cells : List ℕ) → IsAdvanced lead cells Apart ↔ (DoMatch lead cells → ⊥) }
     ensures followed { (pairs : List NumberPair) (ahead : ℕ) (lead : List ℕ) (e : EdgeValue) →

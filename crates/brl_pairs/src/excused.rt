@@ -42,7 +42,8 @@ impl Excused {
         self.accepted.names(rule) || self.exchanged.names(rule)
     }
 
-    /// Whether the split into the steps of two edges is excused.
+    /// Whether the split into two edges is excused: an accepted pair of rules, or an exchanged one
+    /// with the same cells and next state.
     pub fn has(&self, one: &Edge, other: &Edge) -> bool
         ensures { IsTrue result ↔ AreExcusedEdges self.now.exchanged self.now.accepted one.now other.now }
     {

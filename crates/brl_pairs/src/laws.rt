@@ -14,15 +14,14 @@ pub trait Sets<S> {
     ghost sets: { SetsValue S };
 }
 
-/// `advance`, called with a pair's lead and the cells of a step of the run behind, decides which
-/// pair follows: the run stays behind by the rest, or it gets ahead by the rest, or there is no
-/// pair.
+/// `advance` decides which pair follows a step of the run behind: the run stays behind by the rest,
+/// gets ahead by it, or there is no pair.
 pub fn advance_law<M: Machine>(_machine: &M)
     ensures { AdvanceDecides M.State }
 {}
 
-/// The theorem: for every machine, every set of states and every set of pairs, closed sets imply
-/// that no two different texts of the machine, of any length, have the same translation.
+/// The theorem: where any sets of states and pairs are closed for a machine, no two different
+/// texts, of any length, have the same translation.
 pub fn closed_sets_law<M: Machine, C: Sets<M::State>>(machine: &M)
     ensures { IsClosed (M.behaviour machine.now) C.sets → IsUnambiguous (M.behaviour machine.now) }
 {
@@ -38,10 +37,9 @@ pub fn numbered_sets_law<M: Machine>(machine: &M)
     let _ = machine.start();
 }
 
-/// The theorem for sets that are closed but for some pairs of rules: any two paths to final states
-/// that give the same cells are one path, or they begin with the same steps and go on with two
-/// different ones, whose rules are one of these pairs. So any two texts with the same translation
-/// are equal, or have paths that do so; and wherever two such paths diverge, it is at one of these
+/// The theorem for sets that are closed but for pairs of rules: two paths to final states with the
+/// same cells are one, or diverge at one of these. So any two texts with the same translation are
+/// equal, or have paths that do so; and wherever two such paths diverge, it is at one of these
 /// pairs.
 pub fn divergence_law<M: Machine, C: Sets<M::State>>(machine: &M)
     ensures paths { (rules : List (ℕ × ℕ)) → IsClosedBut (M.behaviour machine.now) rules C.sets → DivergeOnlyAt rules (M.behaviour machine.now) }
@@ -63,10 +61,8 @@ pub fn numbered_divergence_law<M: Machine>(machine: &M)
     let _ = machine.start();
 }
 
-/// The theorem for sets that are closed but for some exchanges, and for some pairs of rules: any
-/// two paths to final states that give the same cells are the same step by step, but for exchanges
-/// of steps with the same cells that lead to the same state, to their ends or up to a place where
-/// they go on with two different steps of one of the pairs of rules. So any two texts with the same
+/// The theorem for sets that are closed but for exchanges and pairs of rules: texts with the same
+/// translation differ by exchanges, or diverge at such a pair. So any two texts with the same
 /// translation have paths that do so.
 pub fn exchange_law<M: Machine, C: Sets<M::State>>(machine: &M)
     ensures paths { (exchanged rules : List (ℕ × ℕ)) → IsClosedUpTo (M.behaviour machine.now) exchanged rules C.sets →
@@ -94,8 +90,8 @@ pub fn nothing_excused_law<M: Machine, C: Sets<M::State>>(machine: &M)
     let _ = machine.start();
 }
 
-/// There are such sets wherever two paths to final states that give the same cells diverge at these
-/// pairs of rules alone: the states that steps lead to from the start, and the pairs with two runs
+/// If paths with the same cells diverge at these pairs of rules alone, there are sets that are
+/// closed but for these: the states that steps lead to from the start, and the pairs with two runs
 /// that diverge at none of them.
 pub fn divergence_sets_law<M: Machine>(machine: &M)
     ensures { (rules : List (ℕ × ℕ)) → HasEachDivergence rules (M.behaviour machine.now) →
@@ -104,17 +100,16 @@ pub fn divergence_sets_law<M: Machine>(machine: &M)
     let _ = machine.start();
 }
 
-/// Two paths diverge at one place: the steps before it are determined, and so are the two different
-/// ones with which they go on. A state lists both of these, at different places.
+/// Two paths diverge at one place, where a state lists both steps, at different places of its list.
+/// The steps before it are determined, and so are the two different ones with which they go on.
 pub fn one_divergence_law<M: Machine>(machine: &M)
     ensures once { DivergeOnce M.State }
     ensures listed { DivergeWhereListed (M.behaviour machine.now) }
 {}
 
-/// In an exact machine paths with the same cells diverge just at the pairs of rules at which two
-/// different texts with the same translation diverge. So there are sets that are closed but for
-/// some pairs of rules exactly where these have each such pair. And there is one complete list of
-/// them: two such lists have the same pairs.
+/// An exact machine has one complete list of the pairs of rules at which two different texts with
+/// the same translation diverge. So there are sets that are closed but for some pairs of rules
+/// exactly where these have each such pair, and two complete lists have the same pairs.
 pub fn one_list_law<M: Machine>(machine: &M)
     ensures clashes { IsExact (M.behaviour machine.now) → (rules : List (ℕ × ℕ)) →
         HasEachDivergence rules (M.behaviour machine.now) ↔ HasEachClash rules (M.behaviour machine.now) }

@@ -17,7 +17,8 @@ pub trait Machine {
     /// final, its texts and their translation.
     ghost behaviour: { Self → Behaviour Self.State };
 
-    /// The state before any character. No memory is allocated.
+    /// The state before any character, of a machine that keeps the laws of machines. No memory is
+    /// allocated.
     fn start(&self) -> Self::State
         ensures start { result ≡ (behaviour self.now).start }
         ensures laws { KeepsLaws (behaviour self.now) };

@@ -150,8 +150,8 @@ impl Order {
         Ok(Order { numbers, shorter })
     }
 
-    /// The places of the sequences that begin a key, or begin with it. Those that begin it are
-    /// found one from the other, and the others by halving, so no others are read.
+    /// The places of the sequences that begin a key or begin with it, ascending. Those that begin
+    /// it are found one from the other, and the others by halving, so no others are read.
     pub fn around<W: Sequence>(
         &self,
         alloc: Global,

@@ -20,9 +20,9 @@ pub struct TwoPlaces {
     pub second: u32,
 }
 
-/// Of each edge, by its position in the order of cells, whether it is shared: whether it has an
-/// edge of its own among the others, with the same cells and the same next state. Both lists are
-/// gone through once, so of edges with the same cells some may be passed over.
+/// Of each edge, by its place in the order of cells, whether it has one of its own among the
+/// others, with the same cells and next state. Both lists are gone through once, so of edges with
+/// the same cells some may be passed over.
 pub fn shared_with(
     alloc: Global,
     kept: &KeptCells,

@@ -96,7 +96,8 @@ fn marks_of(
     Ok(marks)
 }
 
-/// The splits of edges whose places are below this count.
+/// The splits of edges: where each is in the order of cells, the last shorter one before it, and
+/// whether it splits.
 pub fn splits_of(
     alloc: Global,
     cells: &[Cells],

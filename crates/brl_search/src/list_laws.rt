@@ -11,9 +11,9 @@ ghost use Rattle.brl_search.specs.Searched.{State, machine_of};
 ghost use Rattle.brl_search.specs.declared.table_clashes.RuleClash.{RuleClash as ClashValue};
 ghost use Rattle.brl_without.specs.Without.{without};
 
-/// A whole list has just the pairs of rules at which the traces of two clashing texts diverge that
-/// use none of what is left out. So there is one list: two whole lists of a table, with whatever
-/// limits and however they were found, have the same pairs of rules in the same order.
+/// A whole list has just the pairs of rules at which the traces of two clashing texts without what
+/// is left out diverge. So there is one list: two whole lists of a table, with whatever limits and
+/// however they were found, have the same pairs of rules in the same order.
 pub fn whole_list_law()
     ensures just { (left_out : List ℕ) (t : TableView) (limit : ℕ) (list : List ClashValue) (body : BodyView State) →
         AreRuleClashes left_out t list → IsWholeList left_out t limit list body → AreJustThose left_out t (rules_of_clashes list) }

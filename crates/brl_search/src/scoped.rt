@@ -31,9 +31,9 @@ pub enum Searched {
     NotExchangeable(AcceptFault),
 }
 
-/// Searches a table for a certificate or a clash of texts that use none of some characters, but for
-/// pairs of rules that are excused. Where nothing is, it finds what `search` would, over the
-/// table's dues machine without these characters. Progress is reported slice by slice.
+/// Searches a table without some characters: finds a certificate but for what is excused, the least
+/// other clash, or the limit. Where nothing is, it finds what `search` would, over the table's dues
+/// machine without these characters. Progress is reported slice by slice.
 ///
 /// Where something is excused it lists the pairs of rules at which clashing texts diverge, as
 /// `clashes` does, and then checks what shows that there are no others. A clash is that of the

@@ -25,11 +25,10 @@ struct ClashFilter<'a> {
     rules: Option<(u32, u32)>,
 }
 
-/// The clash of two texts that are known to clash, made small: characters are left out of both
-/// until no one character of either text, nor one of each, can be left out so that they clash.
-/// Where one of them has more than 256 characters once blocks were left out, both stay as they are
-/// then. Where a pair of rules is given, at which the traces of the two texts diverge, only such
-/// clashes count.
+/// The clash of two texts that clash, made small: no character of one, nor one of each, can be left
+/// out, unless a text has over 256. Where one of them has more than 256 characters once blocks were
+/// left out, both stay as they are then. Where a pair of rules is given, at which the traces of the
+/// two texts diverge, only such clashes count.
 ///
 /// First half of the characters, from some place on, are tried at once, then a quarter, and so on
 /// to a 256th, which costs some 512 translations of the left text. Then, each time that a character

@@ -44,9 +44,8 @@ pub enum ClashList {
     },
 }
 
-/// Lists every pair of rules of a table at which clashing texts diverge that use none of some
-/// characters, over its dues machine without these. What is found so far is reported slice by
-/// slice.
+/// Lists every pair of rules at which clashing texts without some characters diverge, each with a
+/// small clash; or finds the limit. What is found so far is reported slice by slice.
 ///
 /// `Partial` as soon as the states found, the pairs found or the pairs of rules listed are more
 /// than `limit`.

@@ -33,9 +33,9 @@ pub enum Found {
 /// Why a search finds nothing: memory runs out.
 pub type SearchFault = AllocError;
 
-/// Searches a table for a certificate or a clash, over its dues machine. The certificate is of
-/// version 3. Its states are in the order in which they are found: the start first, and then each
-/// as the next state of a step of an earlier one.
+/// Searches a table: finds a closed certificate, so that the table is unambiguous, or a clash, made
+/// small, or the limit. The certificate is of version 3. Its states are in the order in which they
+/// are found: the start first, and then each as the next state of a step of an earlier one.
 ///
 /// `Limit` as soon as the states found, or the pairs found, are more than `limit`.
 pub fn search(alloc: Global, table: &Table, limit: u64) -> Result<Found, SearchFault>

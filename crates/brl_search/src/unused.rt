@@ -21,10 +21,10 @@ pub enum UnusedRules {
     Limit { states: u64 },
 }
 
-/// The rules of a table that no text over its characters uses, without those that are left out, of
-/// any length: the rules that no path of its dues machine without them takes. Own definitions of
-/// characters are rules too. How many states are
-/// found is reported. `Limit` as soon as they are more than `limit`.
+/// The rules of a table that no text without some characters uses, while some text uses each other
+/// rule; or the limit. It is the rules that no path of its dues machine without these takes. Own
+/// definitions of characters are rules too. How many states are found is reported. `Limit` as soon
+/// as they are more than `limit`.
 pub fn unused_rules<P: Progress>(
     alloc: Global,
     table: &Table,

@@ -17,7 +17,8 @@ pub trait Input {
     // the number of failed reads; each failure changes it
     ghost failures: { Self → ℕ };
 
-    /// Reads once into the buffer. Returns 0 only at the end of the input or for an empty buffer.
+    /// Reads some next bytes into the buffer; the count of failures changes exactly where it fails.
+    /// Returns 0 only at the end of the input or for an empty buffer.
     fn read_some(&mut self, buffer: &mut [u8]) -> Result<usize, Failed>
         ensures bound { ReadsAtMost result buffer.new }
         ensures bytes { ReadConsumes (remaining self.old) (remaining self.new) result buffer.new }
@@ -37,7 +38,8 @@ pub trait Output {
     // the number of failed writes; each failure changes it
     ghost failures: { Self → ℕ };
 
-    /// Writes all the bytes. Where a write fails, a first part of them may have been written.
+    /// Writes all the bytes, or where it fails a first part; exactly then the count of failures
+    /// changes.
     fn put(&mut self, bytes: &[u8]) -> Result<(), Failed>
         ensures ok { OnOk result (Appends (contents self.old) (contents self.new) bytes.now) }
         ensures err { OnErr result ((front rest : List ℕ) × (bytes.now ≡ front ++ rest)
@@ -78,7 +80,7 @@ pub struct Counting<D> {
 impl<D> Counting<D> {
     ghost use Rattle.std.specs.Prelude.{◌≡◌};
 
-    /// A device that hasn't failed yet.
+    /// This device, which hasn't failed yet.
     pub fn new(device: D) -> Self
         ensures device { result.device ≡ device }
         ensures calm { result.failures ≡ 0 }

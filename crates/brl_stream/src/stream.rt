@@ -15,9 +15,10 @@ use brl_failure::Failure;
 use brl_rules::Table;
 use std::alloc::Global;
 
-/// Translates an input line by line. For each line it writes the marks in the form, then a line
-/// feed, in one write before the next line is translated. A line ends with a line feed, or with a
-/// carriage return and a line feed; a last line without them counts.
+/// Translates an input line by line: writes the outputs of the lines before the first fault, which
+/// names its line. For each line it writes the marks in the form, then a line feed, in one write
+/// before the next line is translated. A line ends with a line feed, or with a carriage return and
+/// a line feed; a last line without them counts.
 ///
 /// The first fault ends the stream. Faults of one line come in this order: `InputFailed`,
 /// `InputLineTooLong` (more than 65,536 bytes without its end), `InputNotUtf8`, `UnknownChar`,
@@ -46,10 +47,10 @@ pub fn translate_lines<R: Input, W: Output>(
     take_lines(alloc, table, form, &mut kept, reader, writer)
 }
 
-/// Translates the lines of an input that have no character that the table doesn't define, as
-/// `translate_lines` does. Nothing is written for the other lines. Answers the characters that the
-/// table doesn't define, in the order of their first uses, each with its number of uses and the
-/// number of the first line that has it, from 1.
+/// Translates the lines of an input without undefined characters, as `translate_lines` does, and
+/// lists the undefined characters of the others. Nothing is written for the other lines. Answers
+/// the characters that the table doesn't define, in the order of their first uses, each with its
+/// number of uses and the number of the first line that has it, from 1.
 ///
 /// Faults are those of `translate_lines` but for `UnknownChar`; the first one ends the stream. The
 /// list takes memory by the number of its characters.

@@ -96,8 +96,9 @@ fn check<M: Parted, W: Progress>(
     check_ends(machine, excused, body)
 }
 
-/// Accepts states and pairs for a machine exactly where they are closed, and returns their numbers.
-/// Then the machine translates no two different texts, of any length, to the same cells.
+/// Accepts states and pairs exactly where they are closed for a machine; else the fault is the
+/// first test that fails, with the least numbers. Then the machine translates no two different
+/// texts, of any length, to the same cells.
 ///
 /// Otherwise the fault is the first of `NoStart`, `StateMissing`, `SplitMissing`, `PairMissing` and
 /// `BothEnd` that applies. It names the least state or pair to which it applies, and then the least
@@ -124,10 +125,10 @@ pub fn accept<M: Machine>(
     accept_up_to(alloc, &whole, &excused, body, &mut NoProgress)
 }
 
-/// Accepts states and pairs for a machine exactly where they are closed but for splits that are
-/// excused, and returns their numbers. Then any two texts of the machine, of any length, that it
-/// translates to the same cells are the same step by step but for exchanges, to their ends or up to
-/// a place where they go on with two steps of an accepted pair of rules.
+/// Accepts sets exactly where they are closed but for excused splits: then texts with the same
+/// cells differ by exchanges, or diverge at an accepted pair. Then any two texts of the machine, of
+/// any length, that it translates to the same cells are the same step by step but for exchanges, to
+/// their ends or up to a place where they go on with two steps of an accepted pair of rules.
 ///
 /// Otherwise the fault is the first one that applies, as for `accept`; `SplitMissing` names the
 /// least split that is neither listed nor excused. `watch` hears of the progress after each state.

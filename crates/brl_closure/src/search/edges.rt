@@ -47,8 +47,9 @@ impl<'m, M: Machine> Finder<'m, M> {
         })
     }
 
-    /// The edges of the state with this number, by the list of all its steps. The next states of
-    /// these steps are added where they haven't been found before, and their cells are kept.
+    /// The edges of the state with this number, by the list of all its steps; no pair is found. The
+    /// next states of these steps are added where they haven't been found before, and their cells
+    /// are kept.
     pub fn list_edges(
         &self,
         trail: &mut Trail<M::State>,
@@ -79,9 +80,9 @@ impl<'m, M: Machine> Finder<'m, M> {
 }
 
 impl<'m, M: Parted> Finder<'m, M> {
-    /// The edges of the state with this number, in listed order. The next states of its steps are
-    /// added where they haven't been found before, in the order of the steps; the cells of the
-    /// steps are kept, and the parts of the steps.
+    /// The edges of the state with this number, in listed order, by the parts of its steps; no pair
+    /// is found. The next states of its steps are added where they haven't been found before, in
+    /// the order of the steps; the cells of the steps are kept, and the parts of the steps.
     pub fn find_edges(
         &self,
         trail: &mut Trail<M::State>,

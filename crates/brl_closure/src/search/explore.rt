@@ -52,8 +52,8 @@ impl<'m, M: Parted> Model for Search<'m, M> {
 }
 
 impl<'m, M: Parted> Search<'m, M> {
-    /// The search of a machine that has found the start. It finds states and pairs by hashes of
-    /// this seed, which is to be drawn from all that the machine depends on.
+    /// The search of a machine that has found the start, or its outcome. It finds states and pairs
+    /// by hashes of this seed, which is to be drawn from all that the machine depends on.
     pub fn start(
         alloc: Global,
         machine: &'m M,
@@ -81,7 +81,7 @@ impl<'m, M: Parted> Search<'m, M> {
         }))
     }
 
-    /// The number of states found so far.
+    /// The number of states found so far, all of them reached.
     pub fn state_count(&self) -> usize
         ensures count { result ≡ length self.now.states }
         ensures reached { AtLeast result SameState (Reached (M.behaviour self.now.machine)) }
@@ -89,7 +89,7 @@ impl<'m, M: Parted> Search<'m, M> {
         self.trail.states.as_slice().len()
     }
 
-    /// The number of pairs found so far.
+    /// The number of pairs found so far, all of them reached.
     pub fn pair_count(&self) -> usize
         ensures count { result ≡ length self.now.pairs }
         ensures reached { AtLeast result SamePair (ReachedPair (M.behaviour self.now.machine)) }
@@ -154,8 +154,8 @@ impl<'m, M: Parted> Sliced for Search<'m, M> {
     ghost fewer = { λ steps old new after. after.fewer };
 }
 
-/// Searches a machine to the end, with a seed as for `Search::start`. `watch` hears of the progress
-/// before each slice of steps.
+/// Searches a machine to its end: finds reached closed sets, or two paths with the same cells, or
+/// the limit. `watch` hears of the progress before each slice of steps.
 pub fn search_machine<M: Parted, W: Progress>(
     alloc: Global,
     machine: &M,

@@ -23,7 +23,7 @@ pub struct KnownSteps<S: Key> {
 }
 
 impl<S: Key> KnownSteps<S> {
-    /// None are kept.
+    /// No steps of states are kept.
     pub fn new(alloc: Global) -> KnownSteps<S>
         ensures { result.lists.items ≡ [] }
     {

@@ -34,7 +34,8 @@ pub fn same_cells_law<M: Machine>(machine: &M)
         IsClashOf (M.behaviour machine.now) left right }
 {}
 
-/// Over a machine of a table such texts are a clash of the table, so `confirm` finds one in them.
+/// Over a machine of a table two different texts with the same cells are a clash of the table, so
+/// `confirm` finds one in them.
 pub fn clash_law<M: Machine>(machine: &M, table: &Table)
     requires texts { (M.behaviour machine.now).is_text ≡ is_text table.now }
     requires translation { (M.behaviour machine.now).translation ≡ translation table.now }
