@@ -12,7 +12,7 @@ from pathlib import Path
 
 from terminal import CLEAR, LETTERS, run_on_terminal
 
-# So many seconds a list must take here, of which the first section may take a third.
+# So many seconds a list must take here. The first section may take a third of its time.
 LONG = 3
 FIRST = b"small letters: 1 pair of rules diverges, and no others\n"
 LAST = b"\n1 pair of rules diverges, and no others\n"
@@ -37,17 +37,29 @@ def table_of(count: int, longest: int) -> str:
     return "\n".join(rows) + "\n"
 
 
-def make_long(words: list[str], table: Path) -> tuple[float, bytes]:
-    """The seconds and the output of a list that takes long."""
+def make_long(words: list[str], table: Path) -> bytes:
+    """The output of a list that takes long."""
     for step in range(20):
         table.write_text(table_of(2800, 8 + 6 * step))
         began = time.monotonic()
         ran = subprocess.run(words, capture_output=True)
-        seconds = time.monotonic() - began
+        long = time.monotonic() - began >= LONG
         need((ran.returncode, ran.stderr) == (1, b""), f"status {ran.returncode}, {ran.stderr!r}")
-        if seconds >= LONG:
-            return seconds, ran.stdout
+        if long:
+            return ran.stdout
     sys.exit(f"sections: no list takes {LONG} seconds")
+
+
+def show(words: list[str], table: Path) -> bytes:
+    """What a terminal shows of a list. What takes no time isn't shown, and a busy machine may be a fast one a moment later: so the
+    first table counts of which something is shown."""
+    for step in range(20):
+        table.write_text(table_of(2800, 8 + 6 * step))
+        status, output, shown = run_on_terminal(words)
+        need((status, output) == (1, subprocess.run(words, capture_output=True).stdout), "the list differs on a terminal")
+        if shown:
+            return shown
+    sys.exit("sections: a terminal shows nothing")
 
 
 def started(words: list[str]) -> subprocess.Popen:
@@ -58,19 +70,19 @@ def main(program: str) -> None:
     with tempfile.TemporaryDirectory() as folder:
         table = Path(folder, "t.ctb")
         words = [program, "clashes", str(table)]
-        seconds, want = make_long(words, table)
+        want = make_long(words, table)
         need(want.startswith(FIRST) and SECOND in want and want.endswith(LAST), f"the list is {want!r}")
 
         # The first section is there early, and nothing of the second.
         began = time.monotonic()
         ran = started(words)
         early = ran.stdout.read1()
-        need(ran.poll() is None and time.monotonic() - began < seconds / 3, "the first section comes late")
+        first = time.monotonic() - began
         need(early.startswith(FIRST) and SECOND not in early, f"the first section is {early!r}")
         need(early + ran.stdout.read() == want and ran.wait() == 1, "the parts aren't the whole")
+        need(first < (time.monotonic() - began) / 3, "the first section comes late")
 
         # A reader that reads the first section alone ends the work, and nothing is said of it.
-        began = time.monotonic()
         ran = started(words)
         ran.stdout.read1()
         ran.stdout.close()
@@ -81,8 +93,7 @@ def main(program: str) -> None:
         need(ran.returncode == 3 and ran.stdout.startswith(early) and b"\nlimit: " in ran.stdout, f"with a limit: {ran.stdout!r}")
 
         # A terminal shows which section is searched, and that is cleared before more is printed.
-        status, output, shown = run_on_terminal(words)
-        need((status, output) == (1, want), "the list differs on a terminal")
+        shown = show(words, table)
         parts = shown.split(CLEAR)
         need(parts[0] == parts[-1] == b"" and all(part.startswith(b"with marks: searching: ") for part in parts[1:-1]) and len(parts) > 2, f"a terminal shows {shown!r}")
     print("sections: each section of a list is printed when it is found")
