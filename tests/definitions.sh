@@ -1,12 +1,13 @@
 #!/bin/sh
-# Compares what docs/proof/HEADLINE.md asks a reader to read with what tools/definitions finds, and shows that a page with
-# another clause, file or number is noticed. docs/proof/DEFINITIONS.md begins with these files, in their order. Usage:
-# tests/definitions.sh
+# Compares docs/proof/READ.md, and what docs/proof/HEADLINE.md says of it, with what tools/definitions finds, and shows that a
+# page with another clause, definition, file or number is noticed. docs/proof/DEFINITIONS.md begins with these files, in their
+# order. Usage: tests/definitions.sh
 set -u
 
 cd "$(dirname "$0")/.." || exit 2
 page=docs/proof/HEADLINE.md
 tools/definitions --check "$page" || exit 1
+tools/definitions --page --check || exit 1
 
 work=$(mktemp -d)
 trap 'rm -rf "$work"' EXIT
@@ -26,9 +27,19 @@ refused 's/Dots 88/Dots 89/'
 refused 's/, Text [0-9]*//'
 refused '/specs\/` | Escapes/d'
 refused 's/^| together | [0-9]* files/| together | 1 files/'
-refused 's/^They name [0-9]* types/They name 1 types/'
+refused 's/^It has [0-9]* definitions/It has 1 definitions/'
 refused 's/^\(The whole contract .* of\) [0-9,]* lines/\1 1 lines/'
 echo "ok: a page with another clause, file or number is noticed"
+
+# The sources, with another page of definitions.
+read=docs/proof/READ.md
+mkdir "$work/docs" && cp -r tools "$work" && cp -r docs/proof "$work/docs" && ln -s "$PWD/crates" "$work/crates" || exit 2
+sed 's/nat_lt 1024/nat_lt 1025/' "$read" >"$work/$read"
+if cmp -s "$read" "$work/$read" || "$work/tools/definitions" --page --check >"$work/said"; then
+    echo "FAILED: a page with another definition"
+    exit 1
+fi
+echo "ok: a page with another definition is noticed"
 
 tools/definitions | awk -F '`' '/^[|] `/ {
     split($3, cells, "|")
