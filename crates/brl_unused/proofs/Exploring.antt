@@ -1,6 +1,5 @@
 -- States are found one by one, with their steps. Where all are found, the rules of edges that lead
--- to
--- live states are those that paths take.
+-- to live states are those that paths take.
 use Rattle.std.proofs.Common.{◌≡◌, ℕ, zero, suc, ◌+◌, ◌<◌, ◌≤◌, Bool, true, false, IsTrue, List, [], ◌∷◌, ◌++◌, length, map, get_or, refl, ap, sym, subst, ◌∙◌, arith, Some, Contains, slice_get, Option, ◌⊎◌, inl, inr, set, append_assoc}
 use Rattle.std.proofs.lemmas.List.{length-map}
 use Rattle.std.proofs.lemmas.List.Elements.{Contains-append_cases, Contains-append_left, Contains-push, Contains-push_cases}
@@ -8,7 +7,7 @@ use Rattle.std.proofs.lemmas.Option.{get_or_from_slice_get, slice_get_read, slic
 use Rattle.brl_closure.proofs.TwoRuns.{path_of}
 use Rattle.brl_closure.specs.Reached.{Reached, start, step}
 use Rattle.brl_contexts.proofs.Kept.{edges_kept}
-use Rattle.brl_contexts.specs.Contexts.{AreContexts, AreEdgesAt, IsEmpty, IsWithin, StillKnows, edges_by, edges_of}
+use Rattle.brl_contexts.specs.Contexts.{AreContexts, AreEdgesAt, IsWithin, StillKnows, edges_by, edges_of}
 use Rattle.brl_contexts.specs.declared.contexts.Contexts.{Contexts}
 use Rattle.brl_contexts.specs.declared.contexts.Expanded.{Expanded}
 use Rattle.brl_contexts.specs.declared.contexts.Expanded.TheVariants as steps

@@ -1,5 +1,4 @@
--- Marks are set one by one: those of live states, and those of the rules of edges that lead to
--- them.
+-- Marks are set one by one: those of live states, and those of the rules of edges that lead there.
 use Rattle.std.proofs.Common.{◌≡◌, ℕ, zero, suc, ◌+◌, ◌<◌, ◌≤◌, Bool, IsTrue, true, false, not, cond, List, [], ◌∷◌, ◌++◌, length, take, set, refl, ap, sym, subst, ◌∙◌, arith, Some, Contains, slice_get, ◌⊎◌, ◌↔◌, inl, inr}
 use Rattle.std.proofs.Math.ListN.{length-set}
 use Rattle.std.proofs.lemmas.List.Elements.{Contains-append_left, Contains-push, Contains-push_cases}
@@ -11,7 +10,7 @@ use Rattle.brl_pairs.specs.declared.edge.ListedEdge.{ListedEdge}
 use Rattle.brl_pairs.proofs.Lists.{push_cases, same_place, set_cases, take-got, three_ways}
 use Rattle.brl_pairs.proofs.Numbered.{contained}
 use Rattle.brl_unused.specs.Graph.{AreAscending, AreLive, HasEdge, IsLive, final, step}
-use Rattle.brl_unused.specs.Marking.{AreMarked, AreMarkedBy, IsClosed, LeadToLive, LeadsOn, MarksMore, Takes, TakesBelow, unmarked}
+use Rattle.brl_unused.specs.Marking.{AreMarked, AreMarkedBy, IsClosed, LeadToLive, LeadsOn, MarksMore, Takes, unmarked}
 use Rattle.brl_unused.specs.declared.found.FoundStates.{FoundStates}
 
 -- ---- One mark

@@ -1,7 +1,6 @@
-use Rattle.std.proofs.Common.{◌≡◌, ◌∙◌, List, Some, arith, length, slice_get, subst}
+use Rattle.std.proofs.Common.{◌≡◌, ◌∙◌, List, arith, length, subst}
 use Rattle.std.specs.List.{Contains}
 use Rattle.brl_contexts.specs.Contexts.{edges_by}
-use Rattle.brl_contexts.specs.declared.contexts.Contexts.{Contexts}
 use Rattle.brl_pairs.proofs.Numbered.{contained}
 use Rattle.brl_pairs.specs.declared.edge.ListedEdge.{ListedEdge}
 use Rattle.brl_unused.specs.Exploring.{Enters}

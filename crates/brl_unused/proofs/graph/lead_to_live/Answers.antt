@@ -1,4 +1,4 @@
-use Rattle.std.proofs.Common.{◌≡◌, ◌∙◌, ◌<◌, Bool, Some, ap, false, get_or, length, refl, sym, true}
+use Rattle.std.proofs.Common.{◌∙◌, ◌<◌, Some, ap, false, get_or, length, refl, sym}
 use Rattle.std.proofs.lemmas.Option.{slice_get-get_or}
 use Rattle.brl_contexts.specs.Contexts.{no_edge}
 use Rattle.brl_pairs.proofs.Numbered.{contained}

@@ -1,4 +1,4 @@
-use Rattle.std.proofs.Common.{◌≡◌, ◌+◌, IsFalse, cond, length}
+use Rattle.std.proofs.Common.{◌+◌, IsFalse, cond}
 use Rattle.brl_unused.specs.Marking.{AreMarked, IsClosed, unmarked}
 use Rattle.brl_unused.proofs.graph.live_states.Given as goal
 

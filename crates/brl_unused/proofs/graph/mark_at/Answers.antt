@@ -1,4 +1,4 @@
-use Rattle.std.proofs.Common.{◌≡◌, ◌∙◌, ◌<◌, ℕ, Bool, List, Some, ap, arith, false, get_or, length, refl, slice_get, subst, sym, true}
+use Rattle.std.proofs.Common.{◌≡◌, ◌∙◌, ◌<◌, ℕ, Bool, List, Some, ap, arith, get_or, length, refl, slice_get, subst, true}
 use Rattle.std.proofs.lemmas.Option.{slice_get_read}
 use Rattle.brl_pairs.proofs.Lists.{same_place}
 use Rattle.brl_pairs.proofs.Numbered.{contained}

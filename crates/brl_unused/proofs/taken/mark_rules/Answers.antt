@@ -1,4 +1,4 @@
-use Rattle.std.proofs.Common.{◌≡◌, ◌∙◌, ◌<◌, ◌++◌, ◌∷◌, [], Bool, List, Some, ap, arith, false, get_or, length, subst, sym, take, true}
+use Rattle.std.proofs.Common.{◌∙◌, ◌<◌, ◌++◌, ◌∷◌, [], List, Some, ap, arith, false, get_or, length, subst, sym, take}
 use Rattle.std.proofs.lemmas.Option.{slice_get-get_or}
 use Rattle.brl_contexts.specs.Contexts.{no_edge}
 use Rattle.brl_pairs.proofs.Lists.{take-got}
