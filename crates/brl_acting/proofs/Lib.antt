@@ -1,3 +1,4 @@
+pub mod RuleForms
 pub mod AlikeTables
 pub mod Bytes
 pub mod Enumerated

@@ -5,6 +5,7 @@ ghost use Rattle.brl_acting.specs.PartsViews.{parts_view};
 
 use crate::line_parts::Parts;
 use crate::operand::{chars_at, word_at};
+use crate::rules::is_rule;
 use std::alloc::{AllocError, Global};
 
 /// Whether a line has this opcode after its prefixes.
@@ -18,6 +19,10 @@ pub(crate) fn has_opcode(parts: &Parts<'_>, word: &str) -> bool
 pub(crate) fn pair_chars(alloc: Global, parts: &Parts<'_>) -> Result<Option<Vec<char>>, AllocError>
     ensures { IfOk result (λ found. option_map (λ chars. chars.items) found ≡ pair_chars_by (parts_view parts.now)) }
 {
+    // Most lines are rules, whose opcodes need not be compared with these.
+    if is_rule(parts.form) {
+        return Ok(None);
+    }
     let words = parts.words.as_slice();
     if has_opcode(parts, "uplow") {
         return chars_at(alloc, words, 1);

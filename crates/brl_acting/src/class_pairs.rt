@@ -10,6 +10,7 @@ use crate::bases::{has_opcode, push_base};
 use crate::form::is_definition;
 use crate::line_parts::Parts;
 use crate::operand::{chars_at, word_at};
+use crate::rules::is_rule;
 use std::alloc::{AllocError, Global};
 
 /// The name of a class, and a character of it.
@@ -83,6 +84,10 @@ fn push_classes<'a>(
 ) -> Result<(), AllocError>
     ensures { OnOk result (pair_views pairs.new.items ≡ pair_views pairs.old.items ++ classes_by_line (parts_view parts.now)) }
 {
+    // Most lines are rules, whose opcodes need not be compared with those that give classes.
+    if is_rule(parts.form) {
+        return Ok(());
+    }
     let words = parts.words.as_slice();
     let opcode = word_at(words, 0);
     if is_definition(opcode) {

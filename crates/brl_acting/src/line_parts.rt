@@ -1,6 +1,7 @@
 //! A line as its needs see it.
 ghost use Rattle.std.specs.Prelude.{◌≡◌, map, option_map};
-ghost use Rattle.brl_acting.specs.Words.{chars_at};
+ghost use Rattle.brl_acting.specs.Forms.{form_of};
+ghost use Rattle.brl_acting.specs.Words.{chars_at, word_at};
 
 use crate::form::Form;
 
@@ -19,6 +20,7 @@ pub(crate) struct Parts<'a> {
     pub chars: Option<Vec<char>>,
     /// The form of the opcode's needs.
     pub form: Option<Form>,
+    ghost form_is: { form ≡ form_of (word_at (map (λ word. word.now) words.items) 0) },
     ghost chars_are: { option_map (λ chars. chars.items) chars ≡ chars_at (map (λ word. word.now) words.items) 1 },
 }
 

@@ -19,7 +19,7 @@ pub(crate) struct Rule<'a> {
 }
 
 /// Whether a form is that of rules.
-fn is_rule(form: Option<Form>) -> bool
+pub(crate) fn is_rule(form: Option<Form>) -> bool
     ensures { result ≡ is_rule_by form }
 {
     matches!(form, Some(Form::Rule))
