@@ -3,7 +3,7 @@ use Rattle.std.proofs.Common.{◌≡◌, ◌∙◌, ◌||◌, ℕ, Bool, List, [
 use Rattle.std.specs.Cmp.Lexicographic.{bytes_decides}
 use Rattle.std.specs.Option.{option_or, unwrap_or}
 use Rattle.std.specs.Str.{bytes_eq}
-use Rattle.brl_acting.specs.Capitals.{bases_in, both, pair_chars, pair_of}
+use Rattle.brl_acting.specs.Capitals.{bases_in, both, has_opcode, pair_chars, pair_of}
 use Rattle.brl_acting.specs.Classes.{classes_in, classes_named, classes_of_pairs, names_class}
 use Rattle.brl_acting.specs.Forms.{form_in, form_of, indicator_forms, is_definition, is_never, is_other_rule, is_placed, other_forms}
 use Rattle.brl_acting.specs.Readings.{is_rule}
@@ -32,9 +32,9 @@ rule_form (Some Sequence) h = cc
 rule_form (Some Letsign) h = cc
 
 -- other opcodes aren't of rules
-no_rules : (form_of (codes "attribute") ≡ Some Class) × (form_of (codes "class") ≡ Some Class) × (form_of (codes "base") ≡ Some Base) × (form_of (codes "swapcc") ≡ Some Never) × (form_of (codes "swapcd") ≡ Some Never) × (form_of (codes "uplow") ≡ Some Uplow)
+no_rules : (form_of (codes "attribute") ≡ Some Class) × (form_of (codes "class") ≡ Some Class) × (form_of (codes "base") ≡ Some Base) × (form_of (codes "swapcc") ≡ Some Never) × (form_of (codes "swapcd") ≡ Some Never) × (form_of (codes "uplow") ≡ Some Uplow) × (form_of (codes "noletsign") ≡ Some Never)
 unfolding form_of is_definition is_placed is_other_rule is_never
-no_rules = (refl, refl, refl, refl, refl, refl)
+no_rules = (refl, refl, refl, refl, refl, refl, refl)
 
 module _ (word : List ℕ) (is : form_of word ≡ Some Rule) where
   differs : (name : List ℕ) (form : Form) → form_of name ≡ Some form → is_rule (Some form) ≡ false → bytes_eq word name ≡ false
@@ -62,6 +62,9 @@ module _ (word : List ℕ) (is : form_of word ≡ Some Rule) where
 module _ (parts : LineParts) (own : parts.form ≡ form_of (word_at parts.words 0)) (rule : is_rule parts.form ≡ true) where
   is_form : form_of (word_at parts.words 0) ≡ Some Rule
   is_form = sym own ∙ rule_form parts.form rule
+
+  pub no_noletsigns : has_opcode (codes "noletsign") parts ≡ false
+  no_noletsigns = differs (word_at parts.words 0) is_form (codes "noletsign") Never no_rules.6 refl
 
   pub no_pair : pair_chars parts ≡ None
   no_pair =

@@ -1,6 +1,7 @@
 //! The classes that lines give characters.
 ghost use Rattle.std.specs.Prelude.{◌≡◌, ◌++◌, IfOk, OnOk, [], ◌∷◌, codes, map};
 ghost use Rattle.std.specs.Option.{unwrap_or};
+ghost use Rattle.brl_acting.specs.Capitals.{has_opcode as has_opcode_by};
 ghost use Rattle.brl_acting.specs.Classes.{besides_in as besides_by_line, besides_of as besides_by_lines, classes_in as classes_by_line, classes_named as classes_by_name, classes_of as classes_by_lines, classes_of_pair as classes_by_pair, classes_of_pairs as classes_by_pairs, classes_with as classes_by_character, names_class as names_class_by, noletsigns_in as noletsigns_by_line, noletsigns_of as noletsigns_by_lines, only as only_by};
 ghost use Rattle.brl_acting.specs.Sets.{is_one_of, pair_views};
 ghost use Rattle.brl_acting.specs.PartsViews.{parts_view};
@@ -138,12 +139,22 @@ fn only(chars: &[char]) -> &[char]
     if chars.len() == 1 { chars } else { &[] }
 }
 
+/// Whether a line lists letters before which `letsign` doesn't stand.
+fn lists_noletsigns(parts: &Parts<'_>) -> bool
+    ensures { result ≡ has_opcode_by (codes "noletsign") (parts_view parts.now) }
+{
+    if is_rule(parts.form) {
+        return false;
+    }
+    has_opcode(parts, "noletsign")
+}
+
 /// Adds the letters before which `letsign` doesn't stand, by a line.
 fn push_noletsigns(letters: &mut Vec<char>, parts: &Parts<'_>) -> Result<(), AllocError>
     ensures { OnOk result (letters.new.items ≡ letters.old.items ++ noletsigns_by_line (parts_view parts.now)) }
 {
     let words = parts.words.as_slice();
-    if has_opcode(parts, "noletsign") {
+    if lists_noletsigns(parts) {
         return letters.extend_from_slice(parts.first_chars());
     }
     if is_word(word_at(words, 0)) && !parts.nofor {
