@@ -7,6 +7,7 @@ use Rattle.brl_acting.specs.Capitals.{bases_in, both, has_opcode, pair_chars, pa
 use Rattle.brl_acting.specs.Classes.{classes_in, classes_named, classes_of_pairs, names_class}
 use Rattle.brl_acting.specs.Forms.{form_in, form_of, indicator_forms, is_definition, is_never, is_other_rule, is_placed, other_forms}
 use Rattle.brl_acting.specs.Readings.{is_rule}
+use Rattle.brl_acting.specs.Sets.{is_one_of}
 use Rattle.brl_acting.specs.Words.{LineParts, chars_at, word_at}
 use Rattle.brl_acting.specs.declared.form.Form.{Form}
 use Rattle.brl_acting.specs.declared.form.Form.TheVariants.{Never, Defines, Base, Uplow, Grouping, Class, Rule, Block, Match, Text, Pass, Capitals, Digits, DigitList, Mode, Sequence, Letsign}
@@ -35,6 +36,10 @@ rule_form (Some Letsign) h = cc
 no_rules : (form_of (codes "attribute") ≡ Some Class) × (form_of (codes "class") ≡ Some Class) × (form_of (codes "base") ≡ Some Base) × (form_of (codes "swapcc") ≡ Some Never) × (form_of (codes "swapcd") ≡ Some Never) × (form_of (codes "uplow") ≡ Some Uplow) × (form_of (codes "noletsign") ≡ Some Never)
 unfolding form_of is_definition is_placed is_other_rule is_never
 no_rules = (refl, refl, refl, refl, refl, refl, refl)
+
+of_words : (form_of (codes "word") ≡ Some Rule) × (form_of (codes "largesign") ≡ Some Rule)
+unfolding form_of is_definition is_placed is_other_rule is_never
+of_words = (refl, refl)
 
 module _ (word : List ℕ) (is : form_of word ≡ Some Rule) where
   differs : (name : List ℕ) (form : Form) → form_of name ≡ Some form → is_rule (Some form) ≡ false → bytes_eq word name ≡ false
@@ -79,3 +84,15 @@ module _ (parts : LineParts) (own : parts.form ≡ form_of (word_at parts.words 
       (defines_none word is_form)
       ∙ ap (λ b. cond b (classes_named (word_at parts.words 1) (unwrap_or (chars_at parts.words 2) (32 ∷ []))) (classes_of_pairs (bases_in parts))) (names_none word is_form)
       ∙ ap (λ pair. classes_of_pairs (pair_of pair)) no_pair
+
+module _ (parts : LineParts) (own : parts.form ≡ form_of (word_at parts.words 0)) (other : is_rule parts.form ≡ false) where
+  unlike : (name : List ℕ) → form_of name ≡ Some Rule → bytes_eq (word_at parts.words 0) name ≡ false
+  unlike name named = by (bytes_eq (word_at parts.words 0) name) refl
+    where
+      by : (b : Bool) → bytes_eq (word_at parts.words 0) name ≡ b → bytes_eq (word_at parts.words 0) name ≡ false
+      by true e = absurd (let wrong : false ≡ true = sym other ∙ ap is_rule own ∙ ap is_rule (ap form_of ((bytes_decides (word_at parts.words 0) name).0 e) ∙ named) in cc)
+      by false e = e
+
+  -- a line that is no rule makes no letter a word
+  pub no_words : is_one_of (codes "word" ∷ codes "largesign" ∷ []) (word_at parts.words 0) ≡ false
+  no_words i = unlike (codes "word") of_words.0 i || (unlike (codes "largesign") of_words.1 i || false)

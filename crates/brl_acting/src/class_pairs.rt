@@ -5,7 +5,7 @@ ghost use Rattle.brl_acting.specs.Capitals.{has_opcode as has_opcode_by};
 ghost use Rattle.brl_acting.specs.Classes.{besides_in as besides_by_line, besides_of as besides_by_lines, classes_in as classes_by_line, classes_named as classes_by_name, classes_of as classes_by_lines, classes_of_pair as classes_by_pair, classes_of_pairs as classes_by_pairs, classes_with as classes_by_character, names_class as names_class_by, noletsigns_in as noletsigns_by_line, noletsigns_of as noletsigns_by_lines, only as only_by};
 ghost use Rattle.brl_acting.specs.Sets.{is_one_of, pair_views};
 ghost use Rattle.brl_acting.specs.PartsViews.{parts_view};
-ghost use Rattle.brl_acting.specs.Words.{chars_at as chars_by};
+ghost use Rattle.brl_acting.specs.Words.{chars_at as chars_by, word_at as word_by};
 
 use crate::bases::{has_opcode, push_base};
 use crate::form::is_definition;
@@ -143,6 +143,7 @@ fn only(chars: &[char]) -> &[char]
 fn lists_noletsigns(parts: &Parts<'_>) -> bool
     ensures { result ≡ has_opcode_by (codes "noletsign") (parts_view parts.now) }
 {
+    // Most lines are rules, whose opcodes need not be compared with this one.
     if is_rule(parts.form) {
         return false;
     }
@@ -153,14 +154,24 @@ fn lists_noletsigns(parts: &Parts<'_>) -> bool
 fn push_noletsigns(letters: &mut Vec<char>, parts: &Parts<'_>) -> Result<(), AllocError>
     ensures { OnOk result (letters.new.items ≡ letters.old.items ++ noletsigns_by_line (parts_view parts.now)) }
 {
-    let words = parts.words.as_slice();
     if lists_noletsigns(parts) {
         return letters.extend_from_slice(parts.first_chars());
     }
-    if is_word(word_at(words, 0)) && !parts.nofor {
+    if makes_words(parts) && !parts.nofor {
         return letters.extend_from_slice(only(parts.first_chars()));
     }
     Ok(())
+}
+
+/// Whether a line is a rule that can make a letter a word.
+fn makes_words(parts: &Parts<'_>) -> bool
+    ensures { result ≡ is_one_of (codes "word" ∷ codes "largesign" ∷ []) (word_by (parts_view parts.now).words 0) }
+{
+    // The opcodes of other lines need not be compared with these.
+    if !is_rule(parts.form) {
+        return false;
+    }
+    is_word(word_at(parts.words.as_slice(), 0))
 }
 
 /// Whether lines of an opcode make a letter a word.
