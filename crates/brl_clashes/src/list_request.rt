@@ -19,8 +19,8 @@ pub struct ListRequest<'a> {
     pub form: ListForm<'a>,
 }
 
-/// A list, and what is worked out once before its sections are found: `kept` has the characters
-/// that aren't left out, and `kinds` the kinds of these characters, each of which has a section;
+/// A list, and what is worked out once before its sections are found. `kept` has the characters
+/// that aren't left out. `kinds` has the kinds of these characters; each kind has a section.
 /// `firsts` says which own definitions represent others.
 #[derive(Clone, Copy)]
 pub(crate) struct Plan<'a> {

@@ -26,7 +26,7 @@ pub struct Tally {
 }
 
 impl Tally {
-    /// The tally of no sections, of which nothing is kept. No memory is allocated.
+    /// The tally before the first section: no pairs, no counts. No memory is allocated.
     pub fn new(alloc: Global) -> Tally
         ensures whole { result.whole ≡ true }
         ensures none { result.none ≡ true }

@@ -24,9 +24,9 @@ pub struct Choice<'a> {
 }
 
 impl Table {
-    /// The rule that the table chooses at the start of `rest`, of which it takes one character or
-    /// more: the first in rank that fits, else the own definition. `rest` is the text to its end,
-    /// after a character with these classes. The own definition is that of its first character.
+    /// The rule that the table chooses at the start of `rest`: the first in rank that fits, else
+    /// the own definition. It takes one character or more. `rest` is the text to its end, after a
+    /// character with these classes. The own definition is that of its first character.
     pub fn choice(&self, before: Class, rest: &[char]) -> Choice<'_>
         requires { 0 < length rest.now }
         ensures choice { IsChoice result (chosen self.now before rest.now) }

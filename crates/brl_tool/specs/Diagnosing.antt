@@ -74,8 +74,8 @@ abbrev pub ByBaseline : {A : Type 0} → FileAnswers → Option (List ℕ) → (
 ByBaseline gives accept answers outcome =
     Then (IsBaseline gives accept) (λ fault. (path : List ℕ) × (accept ≡ Some path) × IsFaultOfText gives path fault) answers outcome
 
--- a list is made of these: the alphabet of its texts, the lines of a table, none of which has a
--- fault, and the text of the file of accepted pairs
+-- the input of a list: the alphabet of its texts, the lines of a table without faults, and the text
+-- of the file of accepted pairs
 pub record IsInput (alphabet : AlphabetView) (lines : List LineView) (baseline : Option (List ℕ)) (input : ListInput) : Type 0 where
   pub alphabet_is : alphabet_view input.alphabet ≡ alphabet
   pub lines_are : input.loaded.files.lines ≡ lines
@@ -87,9 +87,9 @@ abbrev pub GivesInput : AlphabetView → List LineView → Option (List ℕ) →
 GivesInput alphabet lines baseline (Ok input) = IsInput alphabet lines baseline input
 GivesInput alphabet lines baseline (Err fault) = ⊥
 
--- What a list is made of was read, for the table of the file at a path and the characters of which
--- an option says that texts are made, where the file that is written is none that is only read; or
--- the first fault. `same` says which paths may name one file.
+-- Either the input of a list was read: the table of the file at a path, with the alphabet that an
+-- option gives. The file that is written is then none of those that are only read. Or the outcome
+-- is the first fault. `same` says which paths may name one file.
 abbrev pub ReadsInput : AlphabetOption → FileAnswers → MayBeSame → List ℕ → PairFiles → Result ListInput RunFault → Type 0
 ReadsInput option gives same path pairs outcome =
     ByAlphabet option (λ alphabet. ByFiles gives path (λ read. let paths = only_read read.paths pairs in
@@ -110,8 +110,8 @@ asked_of_input limit form input = record {
   excused = excused_by_text (option_map string_bytes input.baseline) input.loaded.table input.loaded.files.lines;
 }
 
--- what is answered after the sections of a list of which this is kept, beside the text of a file:
--- the verdict, the status, and the file that is written
+-- the answer after the sections of a list, by the tally of these and the text of the file of
+-- accepted pairs: the verdict, the status, and the file that is written
 pub record AnswersTally (alphabet : AlphabetView) (asked : Asked) (baseline : Option (List ℕ)) (pairs : PairFiles) (tally : Tally) (answer : Answer) : Type 0 where
   pub taken : Option Taken
   pub taken_is : taken ≡ taken_by baseline pairs.prune asked.table asked.lines tally.found tally.whole

@@ -35,8 +35,8 @@ pub struct CheckedFiles<'a> {
 }
 
 /// Judges the certificate in a file for the table of another, as `judge_table` does, with what a
-/// third file excuses; valid ones are accepted. The texts are those of the characters of which the
-/// option says that they are made. The pairs of rules that the third file names are accepted, and
+/// third file excuses; valid ones are accepted. The option says of which
+/// characters the texts are made. The pairs of rules that the third file names are accepted, and
 /// the steps of characters of its sets may be exchanged. The option is parsed first, the
 /// certificate's file is read before the table's, and that of what is excused once the table has
 /// these characters. The answer is the lines of an acceptance or the line of a refusal. Progress is

@@ -52,8 +52,8 @@ pub struct ListInput {
 }
 
 /// Lists the pairs of rules at which clashing texts diverge by the table of a file, as `show_list`
-/// does, and answers the verdict, or the fault. The texts are those of the characters of which the
-/// option says that they are made. The pairs that the file at `pairs.accept` names are left out,
+/// does, and answers the verdict, or the fault. The option says of which
+/// characters the texts are made. The pairs that the file at `pairs.accept` names are left out,
 /// and those that are left go to the file at `pairs.write`, unless there may be others. Its stale
 /// lines name none; with `pairs.prune` they are taken out of it. Standard error gets these lines,
 /// and reports of progress. `PairsWouldOverwrite` where the file that is written is one of the
