@@ -98,25 +98,6 @@ pub fn expand<B: Based>(
     }
 }
 
-/// The steps of a state, by the numbers that states and cells have in the contexts, in listed order.
-/// The numbers that were there stay. `AllocError` if memory runs out.
-pub fn edges_of<B: Based>(
-    alloc: Global,
-    machine: &B,
-    contexts: &mut Contexts<B::State>,
-    state: &B::State,
-) -> Result<Vec<ListedEdge>, AllocError>
-    requires contexts { AreContexts (B.behaviour machine.now) (B.sharing machine.now) contexts.old }
-    ensures contexts { OnOk result (AreContexts (B.behaviour machine.now) (B.sharing machine.now) contexts.new) }
-    ensures knows { OnOk result (StillKnows contexts.old contexts.new) }
-    ensures edges { IfOk result (λ edges. AreListedEdges contexts.new.named.states contexts.new.named.cells ((B.behaviour machine.now).steps state.now) edges.items) }
-{
-    let copy = state.copy(alloc)?;
-    let number = contexts.named.number_of(copy)?;
-    let own = expand(alloc, machine, contexts, number as usize)?;
-    contexts.edges(alloc, &own)
-}
-
 /// The number of the context with this base, whose forms are listed where it is a new one.
 fn context_of<B: Based>(
     alloc: Global,

@@ -13,7 +13,7 @@ ghost use Rattle.brl_dues.specs.Sharing.{bar_chars, gate_number, opens_number, o
 
 use crate::carry::{add, carry, class_of};
 use crate::letter::bars_of;
-use crate::asking::asked_of;
+use crate::parts::asked_of;
 use brl_cells::Chars;
 use brl_pairs::Past;
 use brl_rules::{Class, Table, holds};

@@ -17,6 +17,7 @@ pub mod Numbered
 pub mod SplitsLaws
 pub mod Along
 pub mod ListedLaws
+pub mod Filtered
 mod RankLaws
 pub mod ByNumber
 pub mod SharedLaws

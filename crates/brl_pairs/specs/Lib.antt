@@ -17,6 +17,7 @@ pub mod Ranks
 pub mod Grouped
 pub mod Splits
 pub mod Shared
+pub mod Parted
 pub mod Order
 pub mod Based
 pub mod Listed

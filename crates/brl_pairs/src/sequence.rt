@@ -40,22 +40,10 @@ impl Sequence for Chars {
     ghost numbers = { λ chars. chars };
 
     fn compare(&self, other: &Chars) -> Ordering {
-        compare_chars(self.as_slice(), other.as_slice())
+        self.as_slice().cmp(other.as_slice())
     }
 
     fn begins_with(&self, start: &Chars) -> bool {
         self.as_slice().starts_with(start.as_slice())
-    }
-}
-
-/// Which of two lists of characters comes first.
-fn compare_chars(one: &[char], other: &[char]) -> Ordering
-    ensures { result ≡ slice_cmp nat_cmp one.now other.now }
-{
-    // Most lists differ in their first character. To compare whole lists, which goes by groups,
-    // costs a search a tenth more.
-    match (one.first(), other.first()) {
-        (Some(first), Some(second)) if first != second => first.cmp(second),
-        _ => one.cmp(other),
     }
 }

@@ -1,5 +1,5 @@
 //! The list of a state's dues.
-ghost use Rattle.std.specs.Prelude.{◌≡◌, [], length, All, IsTrue};
+ghost use Rattle.std.specs.Prelude.{◌≡◌, [], length, All, IfOk, IsTrue};
 ghost use Rattle.std.specs.Cmp.{partial_equiv_from_equiv};
 ghost use Rattle.std.specs.Cmp.Lexicographic.{lists_equiv, pointwise};
 ghost use Rattle.std.specs.Hash as fed;
@@ -76,6 +76,14 @@ impl DueList {
     {
         self.items.as_slice()
     }
+
+    /// An equal list. `AllocError` if memory runs out.
+    pub fn copy(&self, alloc: Global) -> Result<DueList, AllocError>
+        ensures { IfOk result (λ dues. dues ≡ self.now) }
+    {
+        let items = copy_dues(alloc, self.items.as_slice())?;
+        Ok(DueList { items })
+    }
 }
 
 impl PartialEq for DueList {
@@ -96,11 +104,6 @@ impl Key for DueList {
     ghost use Rattle.brl_states.specs.SameDues.{same_lists};
 
     ghost same = { same_lists };
-
-    fn copy(&self, alloc: Global) -> Result<DueList, AllocError> {
-        let items = copy_dues(alloc, self.items.as_slice())?;
-        Ok(DueList { items })
-    }
 }
 
 impl Hash for DueList {

@@ -11,7 +11,7 @@ use std::alloc::{AllocError, Global};
 
 /// What decides which pair follows an edge, and with which edges it is excused: the number of its
 /// next state, that of its cells, and its rule if a pair of what is excused has it.
-#[derive(Clone, Copy, PartialEq, Eq, Hash)]
+#[derive(PartialEq, Eq, Hash, Drop)]
 struct Kind {
     next: u32,
     cells: u32,
@@ -22,10 +22,6 @@ impl Key for Kind {
     ghost use Rattle.brl_closure.specs.SameKind.{same_kinds};
 
     ghost same = { same_kinds };
-
-    fn copy(&self, _alloc: Global) -> Result<Kind, AllocError> {
-        Ok(*self)
-    }
 }
 
 impl Kind {

@@ -11,14 +11,13 @@ ghost use Rattle.brl_pairs.specs.Runs.{KeepsLaws};
 
 use crate::AcceptFault;
 use crate::check::earlier::EarlierEdges;
-use crate::check::edges::find_edges;
+use crate::check::edges::{KeptParts, edges_of};
 use crate::check::kinds::sort_first_two;
 use crate::check::missing::{MissingPair, MissingSplit, StateEdges};
 use crate::check::pairs_by_state::{PairsByTrailingState, pairs_by_trailing_state};
 use crate::check::sorted::Sorted;
-use crate::numbering::Numbering;
 use brl_failure::Failure;
-use brl_pairs::{Based, Body, Excused, Key, Machine, Seed};
+use brl_pairs::{Body, Excused, Key, Machine, Parted, Seed};
 use brl_progress::{Progress, Work};
 use std::alloc::{AllocError, Global};
 
@@ -116,8 +115,8 @@ fn keep_passed(
 
 /// What is missing, by one pass over the states that holds the edges of one state at a time. A
 /// watcher hears of each state. The fault is the first step that leads to no state of the body.
-/// Bases, states, cells and kinds are found by hashes of this seed.
-pub fn find_missing<M: Based, W: Progress>(
+/// Parts, cells and kinds are found by hashes of this seed.
+pub fn find_missing<M: Parted, W: Progress>(
     alloc: Global,
     machine: &M,
     excused: &Excused,
@@ -132,7 +131,7 @@ pub fn find_missing<M: Based, W: Progress>(
     ensures refused { IfErr result (IfFault (IsRefusedUpTo (M.behaviour machine.now) excused.now body.now)) }
 {
     let behind = pairs_by_trailing_state(alloc, body)?;
-    let mut numbering = Numbering::new(alloc, seed);
+    let mut kept = KeptParts::new(alloc, seed);
     let mut earlier = EarlierEdges::new(alloc);
     let mut missing = Missing {
         split: None,
@@ -140,10 +139,10 @@ pub fn find_missing<M: Based, W: Progress>(
     };
     for state in 0..body.state_count() {
         watch.report(work_at(body, state));
-        let edges = find_edges(alloc, machine, body, &mut numbering, state as usize)?;
-        numbering.contexts.named.cells.rank(alloc)?;
-        let cells = &numbering.contexts.named.cells;
-        let sorted = sort_first_two(alloc, excused, cells, edges, seed)?;
+        kept.forget_parts(alloc, seed);
+        let edges = edges_of(alloc, machine, body, &mut kept, state as usize)?;
+        kept.cells.rank(alloc)?;
+        let sorted = sort_first_two(alloc, excused, &kept.cells, edges, seed)?;
         let at = StateEdges {
             alloc,
             machine,

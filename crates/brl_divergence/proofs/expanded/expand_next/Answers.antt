@@ -3,7 +3,7 @@ use Rattle.brl_pairs.specs.Edges.{AreEdges}
 use Rattle.brl_pairs.specs.Listed.{HaveCells, edges_with}
 use Rattle.brl_pairs.specs.Sorted.{IsSortedOf}
 use Rattle.brl_pairs.specs.declared.edge.ListedEdge.{ListedEdge}
-use Rattle.brl_closure.specs.Numbering.{IsNumbering}
+use Rattle.brl_parts.specs.Parts.{AreKeptParts}
 use Rattle.brl_pairs.proofs.ListedLaws.{edges_of_state, have_cells}
 use Rattle.brl_divergence.specs.Expanded.{rules_of_edges}
 use Rattle.brl_divergence.proofs.Steps.{one_expanded}
@@ -18,8 +18,8 @@ pub sort_edges-requires : goal.sort_edges-requires
 sort_edges-requires g c =
     let m = g.M.Machine.behaviour c.args.finder.now.machine.now in
     subst (λ (own : List (List ℕ)). HaveCells own c.as_slice.result.now) (sym c.rank.ensures)
-    (subst (λ (edges : List ListedEdge). HaveCells c.find_edges.new.numbering.contexts.named.cells edges) (sym c.as_slice.ensures.value)
-    (have_cells m c.find_edges.new.trail.states c.find_edges.new.numbering.contexts.named.cells c.len-number.result c.in_ok-edges.edges.items c.in_ok-edges.ensures.edges))
+    (subst (λ (edges : List ListedEdge). HaveCells c.find_edges.new.cells edges) (sym c.as_slice.ensures.value)
+    (have_cells m c.find_edges.new.trail.states c.find_edges.new.cells c.len-number.result c.in_ok-edges.edges.items c.in_ok-edges.ensures.edges))
 
 pub returns-clause-expanded : goal.returns-clause-expanded
 returns-clause-expanded g c =
@@ -34,15 +34,12 @@ returns-clause-expanded g c =
       edges = edges;
       are_edges = subst (λ (n : ℕ). AreEdges m u.states n edges) count
           (subst (λ (own : List (List ℕ)). AreEdges m u.states c.len-number.result (edges_with own c.in_ok-edges.edges.items)) (sym c.rank.ensures)
-          (edges_of_state m u.states c.find_edges.new.numbering.contexts.named.cells c.len-number.result c.in_ok-edges.edges.items c.in_ok-edges.ensures.edges));
+          (edges_of_state m u.states c.find_edges.new.cells c.len-number.result c.in_ok-edges.edges.items c.in_ok-edges.ensures.edges));
       sorted_of = subst (λ (listed : List ListedEdge). IsSortedOf cells (edges_with cells listed) c.in_ok-sorted.sorted.items) c.as_slice.ensures.value c.in_ok-sorted.ensures;
       rules_of = c.in_ok-rules.ensures ∙ ap (map (λ (x : ListedEdge). x.rule)) c.as_slice-2.ensures.value ∙ same_rules cells c.in_ok-edges.edges.items;
     })
     c.requires.expanded
 
-pub returns-clause-numbering : goal.returns-clause-numbering
-returns-clause-numbering g c =
-    let x = c.find_edges.new.numbering in
-    subst (λ (own : List (List ℕ)). IsNumbering (g.M.Machine.behaviour c.args.finder.now.machine.now) (g.M.Based.sharing c.args.finder.now.machine.now) c.find_edges.new.trail.states
-    (record { contexts = record { named = record { states = x.contexts.named.states; cells = own }; bases = x.contexts.bases; forms = x.contexts.forms }; numbers = x.numbers }))
-    (sym c.rank.ensures) c.in_ok-edges.ensures.numbering
+pub returns-clause-parts : goal.returns-clause-parts
+returns-clause-parts g c =
+    subst (λ (own : List (List ℕ)). AreKeptParts (g.M.Parted.steps_of c.args.finder.now.machine.now) c.find_edges.new.trail.states own c.find_edges.new.parts) (sym c.rank.ensures) c.in_ok-edges.ensures.parts

@@ -7,26 +7,25 @@ use Rattle.brl_pairs.specs.declared.edge.ListedEdge.{ListedEdge}
 use Rattle.brl_pairs.specs.declared.sorted.SortedEdge.{SortedEdge}
 use Rattle.brl_pairs.proofs.ListedLaws.{edges_of_state, have_cells}
 use Rattle.brl_closure.specs.Edges.{AreOfExpanded}
-use Rattle.brl_closure.specs.Numbering.{IsNumbering}
 use Rattle.brl_closure.specs.SearchView.{Stays}
 use Rattle.brl_closure.proofs.Edges.{edges_more, expanded_more, kept_or_none_more}
 use Rattle.brl_closure.proofs.Additions.{advances_trans}
-use Rattle.brl_closure.proofs.Renumbered.{numbering_more}
+use Rattle.brl_closure.proofs.Fresh.{kept_more}
 use Rattle.brl_closure.proofs.SharedSplits.{of_expanded, shared_followed}
 use Rattle.brl_closure.proofs.search.finder.Finder.expand.Goals as goal
 
 pub sort_edges-requires : goal.sort_edges-requires
 sort_edges-requires g c =
     subst (λ (own : List (List ℕ)). HaveCells own c.as_slice.result.now) (sym c.rank.ensures)
-    (subst (λ (edges : List ListedEdge). HaveCells c.find_edges.new.numbering.contexts.named.cells edges) (sym c.as_slice.ensures.value)
-    (have_cells (g.M.Machine.behaviour c.args.self.now.machine.now) c.find_edges.new.trail.states c.find_edges.new.numbering.contexts.named.cells c.args.number c.in_ok-edges.edges.items c.in_ok-edges.ensures.edges))
+    (subst (λ (edges : List ListedEdge). HaveCells c.find_edges.new.cells edges) (sym c.as_slice.ensures.value)
+    (have_cells (g.M.Machine.behaviour c.args.self.now.machine.now) c.find_edges.new.trail.states c.find_edges.new.cells c.args.number c.in_ok-edges.edges.items c.in_ok-edges.ensures.edges))
 
 pub find_new_splits-requires-clause-edges : goal.find_new_splits-requires-clause-edges
 find_new_splits-requires-clause-edges g c =
     let m = g.M.Machine.behaviour c.args.self.now.machine.now in
     subst (λ (own : List (List ℕ)). AreEdges m c.find_edges.new.trail.states c.args.number (edges_with own c.as_slice-6.result.now)) (sym (c.as_slice-kept.ensures.members ∙ c.rank.ensures))
-    (subst (λ (edges : List ListedEdge). AreEdges m c.find_edges.new.trail.states c.args.number (edges_with c.find_edges.new.numbering.contexts.named.cells edges)) (sym c.as_slice-6.ensures.value)
-    (edges_of_state m c.find_edges.new.trail.states c.find_edges.new.numbering.contexts.named.cells c.args.number c.in_ok-edges.edges.items c.in_ok-edges.ensures.edges))
+    (subst (λ (edges : List ListedEdge). AreEdges m c.find_edges.new.trail.states c.args.number (edges_with c.find_edges.new.cells edges)) (sym c.as_slice-6.ensures.value)
+    (edges_of_state m c.find_edges.new.trail.states c.find_edges.new.cells c.args.number c.in_ok-edges.edges.items c.in_ok-edges.ensures.edges))
 
 pub find_new_splits-requires-clause-sorted : goal.find_new_splits-requires-clause-sorted
 find_new_splits-requires-clause-sorted g c =
@@ -47,9 +46,9 @@ find_new_splits-requires-clause-known g c =
     let own = c.as_slice-kept.result.now in
     let edges = edges_with own c.as_slice-6.result.now in
     let moved = c.in_ok-edges.ensures.advances.1 in
-    let more : Stays c.args.numbering.now.contexts.named.cells own = λ k cells at. ap (λ (l : List (List ℕ)). slice_get l k) (c.as_slice-kept.ensures.members ∙ c.rank.ensures) ∙ c.in_ok-edges.ensures.cells k cells at in
+    let more : Stays c.args.cells.now own = λ k cells at. ap (λ (l : List (List ℕ)). slice_get l k) (c.as_slice-kept.ensures.members ∙ c.rank.ensures) ∙ c.in_ok-edges.ensures.cells k cells at in
     let of = of_expanded m states pairs own c.args.expanded.now
-    (kept_or_none_more m c.args.trail.now.states states c.args.numbering.now.contexts.named.cells own moved.states more c.args.expanded.now c.requires.kept)
+    (kept_or_none_more m c.args.trail.now.states states c.args.cells.now own moved.states more c.args.expanded.now c.requires.kept)
     (λ k less. expanded_more m c.args.trail.now.states states c.args.trail.now.pairs pairs moved.states moved.pairs k (c.requires.done k less)) c.likely.result in
     let others : AreOfExpanded m states pairs own c.edges_at-others.result.now = subst (AreOfExpanded m states pairs own) (sym c.edges_at-others.ensures) of in
     let sorted = find_new_splits-requires-clause-sorted g c in
@@ -67,18 +66,14 @@ returns-clause-edges g c =
       edges = edges;
       are_edges = edges_more m c.find_edges.new.trail.states c.find_new_splits.new.trail.states c.in_ok-find_new_splits.ensures.advances.1.states c.args.number edges
           (subst (λ (cells : List (List ℕ)). AreEdges m c.find_edges.new.trail.states c.args.number (edges_with cells c.in_ok-edges.edges.items)) (sym c.rank.ensures)
-          (edges_of_state m c.find_edges.new.trail.states c.find_edges.new.numbering.contexts.named.cells c.args.number c.in_ok-edges.edges.items c.in_ok-edges.ensures.edges));
+          (edges_of_state m c.find_edges.new.trail.states c.find_edges.new.cells c.args.number c.in_ok-edges.edges.items c.in_ok-edges.ensures.edges));
       sorted_of = subst (λ (listed : List ListedEdge). IsSortedOf own (edges_with own listed) c.in_ok-sorted.sorted.items) c.as_slice.ensures.value c.in_ok-sorted.ensures;
     }
 
-pub returns-clause-numbering : goal.returns-clause-numbering
-returns-clause-numbering g c =
-    let m = g.M.Machine.behaviour c.args.self.now.machine.now in
-    let h = g.M.Based.sharing c.args.self.now.machine.now in
-    let x = c.find_edges.new.numbering in
-    let states = c.find_new_splits.new.trail.states in
-    subst (λ (own : List (List ℕ)). IsNumbering m h states (record { contexts = record { named = record { states = x.contexts.named.states; cells = own }; bases = x.contexts.bases; forms = x.contexts.forms }; numbers = x.numbers }))
-    (sym c.rank.ensures) (numbering_more m h c.find_edges.new.trail.states states c.in_ok-find_new_splits.ensures.advances.1.states x c.in_ok-edges.ensures.numbering)
+pub returns-clause-parts : goal.returns-clause-parts
+returns-clause-parts g c =
+    kept_more (g.M.Parted.steps_of c.args.self.now.machine.now) c.find_edges.new.trail.states c.find_new_splits.new.trail.states c.in_ok-find_new_splits.ensures.advances.1.states c.find_edges.new.cells c.rank.new.self
+    (λ k own at. ap (λ (cells : List (List ℕ)). slice_get cells k) c.rank.ensures ∙ at) c.find_edges.new.parts c.in_ok-edges.ensures.parts
 
 pub returns-clause-advances : goal.returns-clause-advances
 returns-clause-advances g c =
