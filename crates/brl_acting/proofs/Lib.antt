@@ -1,4 +1,4 @@
-pub mod RuleForms
+pub mod OpcodeForms
 pub mod AlikeTables
 pub mod Bytes
 pub mod Enumerated

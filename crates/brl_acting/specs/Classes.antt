@@ -4,7 +4,7 @@ use Rattle.std.specs.List.{list_any}
 use Rattle.std.specs.Option.{unwrap_or}
 use Rattle.std.specs.Str.{bytes_eq}
 use Rattle.brl_acting.specs.Capitals.{has_opcode, bases_in, seconds}
-use Rattle.brl_acting.specs.Forms.{is_definition}
+use Rattle.brl_acting.specs.Forms.{defines, is_definition}
 use Rattle.brl_acting.specs.Sets.{is_in, is_one_of, names_view, set_view}
 use Rattle.brl_acting.specs.Words.{LineParts, chars_at, word_at}
 use Rattle.brl_acting.specs.declared.classes.Classes.{Classes as ClassesOfCode}
@@ -38,7 +38,7 @@ classes_of_pairs pairs = flat_map classes_of_pair pairs
 -- the blank, which is in each alphabet.
 abbrev pub classes_in : LineParts → List (List ℕ × ℕ)
 classes_in parts =
-    if is_definition (word_at parts.words 0) then classes_named (word_at parts.words 0) (unwrap_or (chars_at parts.words 1) [])
+    if defines parts.form then classes_named (word_at parts.words 0) (unwrap_or (chars_at parts.words 1) [])
     else if names_class (word_at parts.words 0) then classes_named (word_at parts.words 1) (unwrap_or (chars_at parts.words 2) (32 ∷ []))
     else classes_of_pairs (bases_in parts)
 

@@ -2,7 +2,7 @@
 -- form of needs. Which needs a form has is defined in `Acting`. The sections are those of "How to
 -- Write Translation Tables" in the manual. That these needs are needed is the project's own claim
 -- of liblouis, found by tests.
-use Rattle.std.specs.Prelude.{ℕ, Bool, List, [], ◌∷◌, codes, if◌then◌else◌, Option, Some, None}
+use Rattle.std.specs.Prelude.{ℕ, Bool, true, false, List, [], ◌∷◌, codes, if◌then◌else◌, Option, Some, None}
 use Rattle.std.specs.Option.{option_or}
 use Rattle.brl_acting.specs.Sets.{is_one_of}
 use Rattle.brl_acting.specs.declared.form.Form.{Form}
@@ -18,8 +18,8 @@ never_acts =
     ∷ codes "backmatch" ∷ []
 
 -- "Character-Definition Opcodes"
-abbrev pub defines : List (List ℕ)
-defines =
+abbrev pub definitions : List (List ℕ)
+definitions =
     codes "space" ∷ codes "punctuation" ∷ codes "digit" ∷ codes "letter" ∷ codes "lowercase" ∷ codes "uppercase" ∷ codes "sign"
     ∷ codes "math" ∷ codes "litdigit" ∷ []
 
@@ -60,7 +60,7 @@ sequence_opcodes =
 
 -- the forms of needs, with their opcodes
 unfoldable pub is_definition : List ℕ → Bool
-is_definition word = is_one_of defines word
+is_definition word = is_one_of definitions word
 
 unfoldable pub is_placed : List ℕ → Bool
 is_placed word = is_one_of placed word
@@ -104,3 +104,17 @@ form_in (entry ∷ others) word = if is_one_of entry.1 word then Some entry.0 el
 -- understood
 unfoldable pub form_of : List ℕ → Option Form
 form_of word = option_or (line_form word) (option_or (form_in indicator_forms word) (form_in other_forms word))
+
+-- the form of definitions
+abbrev pub defines : Option Form → Bool
+defines (Some Defines) = true
+defines other = false
+
+-- the forms of lines that can give characters classes beside definitions, or list letters for
+-- `letsign`
+abbrev pub tells_of_characters : Option Form → Bool
+tells_of_characters (Some Class) = true
+tells_of_characters (Some Base) = true
+tells_of_characters (Some Uplow) = true
+tells_of_characters (Some Never) = true
+tells_of_characters other = false

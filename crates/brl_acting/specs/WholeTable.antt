@@ -2,7 +2,6 @@
 -- can act. The project's own choice.
 use Rattle.std.specs.Prelude.{ℕ, ◌≡◌, ◌+◌, ◌&&◌, ◌||◌, ◌==◌, Bool, true, false, List, [], ◌∷◌, ◌++◌, codes, filter, flat_map, if◌then◌else◌, map, nat_eq, not, slice_get, string_bytes}
 use Rattle.std.specs.List.{ends_with, enumerate_from, list_any, slice_split}
-use Rattle.std.specs.Borrow.{Bor}
 use Rattle.std.specs.Option.{option_map_or}
 use Rattle.std.specs.Str.{bytes_eq}
 use Rattle.brl_lines.specs.Gathering.{GatheredView, LeftView}
@@ -16,6 +15,7 @@ use Rattle.brl_table.specs.Survey.{FaultyLineView}
 use Rattle.brl_acting.specs.Acting.{acting_lines}
 use Rattle.brl_acting.specs.Words.{TableLineView, opcode_of}
 use Rattle.brl_acting.specs.declared.whole_table.ActingLine.{ActingLine}
+use Rattle.brl_acting.specs.declared.whole_table.Place.{Place}
 
 -- ---- Places
 
@@ -28,7 +28,7 @@ left_out_place faulty = (faulty.fault.file, faulty.fault.line)
 
 -- two places are the same
 abbrev pub is_place : List ℕ × ℕ → List ℕ × ℕ → Bool
-is_place x y = bytes_eq x.0 y.0 && nat_eq x.1 y.1
+is_place x y = nat_eq x.1 y.1 && bytes_eq x.0 y.0
 
 -- a place is one of these
 abbrev pub has_place : List (List ℕ × ℕ) → List ℕ × ℕ → Bool
@@ -124,15 +124,15 @@ acting_of_table whole gathered left_out alphabet =
 
 -- ---- As the code has them
 
-abbrev pub place_view : Bor (List ℕ) × ℕ → List ℕ × ℕ
-place_view place = (place.0.now, place.1)
+abbrev pub place_view : Place → List ℕ × ℕ
+place_view place = (place.path.now, place.line)
 
 -- a place is one of those of a set
-abbrev pub is_key : List (Bor (List ℕ) × ℕ) → List ℕ × ℕ → Bool
+abbrev pub is_key : List Place → List ℕ × ℕ → Bool
 is_key keys place = list_any (λ key. is_place place (place_view key)) keys
 
 -- a set has just these places
-abbrev pub Holds : List (List ℕ × ℕ) → List (Bor (List ℕ) × ℕ) → Type 0
+abbrev pub Holds : List (List ℕ × ℕ) → List Place → Type 0
 Holds places keys = (place : List ℕ × ℕ) → is_key keys place ≡ has_place places place
 
 abbrev pub file_view : GatheredFile → List ℕ × List ℕ

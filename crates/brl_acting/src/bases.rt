@@ -3,9 +3,9 @@ ghost use Rattle.std.specs.Prelude.{◌≡◌, ◌++◌, IfOk, OnOk, Some, map, 
 ghost use Rattle.brl_acting.specs.Capitals.{bases_in, bases_of as bases_by, both as both_by, has_opcode as has_opcode_by, pair_chars as pair_chars_by, pair_of as pair_by};
 ghost use Rattle.brl_acting.specs.PartsViews.{parts_view};
 
+use crate::form::tells_of_characters;
 use crate::line_parts::Parts;
 use crate::operand::{chars_at, word_at};
-use crate::rules::is_rule;
 use std::alloc::{AllocError, Global};
 
 /// Whether a line has this opcode after its prefixes.
@@ -19,8 +19,7 @@ pub(crate) fn has_opcode(parts: &Parts<'_>, word: &str) -> bool
 pub(crate) fn pair_chars(alloc: Global, parts: &Parts<'_>) -> Result<Option<Vec<char>>, AllocError>
     ensures { IfOk result (λ found. option_map (λ chars. chars.items) found ≡ pair_chars_by (parts_view parts.now)) }
 {
-    // Most lines are rules, whose opcodes need not be compared with these.
-    if is_rule(parts.form) {
+    if !tells_of_characters(parts.form) {
         return Ok(None);
     }
     let words = parts.words.as_slice();

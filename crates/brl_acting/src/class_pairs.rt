@@ -8,7 +8,7 @@ ghost use Rattle.brl_acting.specs.PartsViews.{parts_view};
 ghost use Rattle.brl_acting.specs.Words.{chars_at as chars_by, word_at as word_by};
 
 use crate::bases::{has_opcode, push_base};
-use crate::form::is_definition;
+use crate::form::{defines, is_definition, tells_of_characters};
 use crate::line_parts::Parts;
 use crate::operand::{chars_at, word_at};
 use crate::rules::is_rule;
@@ -85,14 +85,13 @@ fn push_classes<'a>(
 ) -> Result<(), AllocError>
     ensures { OnOk result (pair_views pairs.new.items ≡ pair_views pairs.old.items ++ classes_by_line (parts_view parts.now)) }
 {
-    // Most lines are rules, whose opcodes need not be compared with those that give classes.
-    if is_rule(parts.form) {
-        return Ok(());
-    }
     let words = parts.words.as_slice();
     let opcode = word_at(words, 0);
-    if is_definition(opcode) {
+    if defines(parts.form) {
         return push_named(pairs, opcode, parts.first_chars());
+    }
+    if !tells_of_characters(parts.form) {
+        return Ok(());
     }
     if names_class(opcode) {
         let chars = chars_or(alloc, words, 2, &[' '])?;
@@ -143,8 +142,7 @@ fn only(chars: &[char]) -> &[char]
 fn lists_noletsigns(parts: &Parts<'_>) -> bool
     ensures { result ≡ has_opcode_by (codes "noletsign") (parts_view parts.now) }
 {
-    // Most lines are rules, whose opcodes need not be compared with this one.
-    if is_rule(parts.form) {
+    if !tells_of_characters(parts.form) {
         return false;
     }
     has_opcode(parts, "noletsign")

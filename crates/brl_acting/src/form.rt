@@ -2,7 +2,7 @@
 ghost use Rattle.std.specs.Prelude.{◌≡◌};
 ghost use Rattle.std.specs.List.{list_any};
 ghost use Rattle.std.specs.Str.{bytes_eq};
-ghost use Rattle.brl_acting.specs.Forms.{form_in, form_of as form_by, indicator_forms, is_definition as is_definition_by, is_never as is_never_by, is_other_rule as is_other_rule_by, is_placed as is_placed_by, line_form as line_form_by, other_forms};
+ghost use Rattle.brl_acting.specs.Forms.{defines as defines_by, form_in, form_of as form_by, indicator_forms, is_definition as is_definition_by, is_never as is_never_by, is_other_rule as is_other_rule_by, is_placed as is_placed_by, line_form as line_form_by, other_forms, tells_of_characters as tells_by};
 
 /// What a line needs to act on a text.
 #[derive(Clone, Copy)]
@@ -197,6 +197,24 @@ fn is_other_rule(word: &str) -> bool
     ensures { result ≡ is_other_rule_by word.now }
 {
     is_among(word, &OTHER_RULES)
+}
+
+/// Whether a form is that of definitions.
+pub(crate) fn defines(form: Option<Form>) -> bool
+    ensures { result ≡ defines_by form }
+{
+    matches!(form, Some(Form::Defines))
+}
+
+/// Whether lines of a form can give characters classes beside definitions, or list letters for
+/// `letsign`. The opcodes of others need not be compared with those that do.
+pub(crate) fn tells_of_characters(form: Option<Form>) -> bool
+    ensures { result ≡ tells_by form }
+{
+    matches!(
+        form,
+        Some(Form::Class | Form::Base | Form::Uplow | Form::Never)
+    )
 }
 
 /// Whether lines of an opcode never act.

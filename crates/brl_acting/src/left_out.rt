@@ -65,10 +65,13 @@ fn is_definition_met(known: &Known<'_>, chars: &[char]) -> bool
 }
 
 /// Whether a line that defines a character can act.
-fn defines_near(alloc: Global, known: &Known<'_>, words: &[&str]) -> Result<bool, AllocError>
-    ensures { IfOk result (λ acts. acts ≡ defines_near_by (known_view known.now) (map (λ word. word.now) words.now)) }
+fn defines_near(alloc: Global, known: &Known<'_>, parts: &Parts<'_>) -> Result<bool, AllocError>
+    ensures { IfOk result (λ acts. acts ≡ defines_near_by (known_view known.now) (parts_view parts.now).words) }
 {
-    match all_chars_at(alloc, words, 1)? {
+    if let Some(chars) = &parts.chars {
+        return Ok(is_definition_met(known, chars.as_slice()));
+    }
+    match all_chars_at(alloc, parts.words.as_slice(), 1)? {
         Some(chars) => Ok(is_definition_met(known, chars.as_slice())),
         None => Ok(true),
     }
@@ -179,7 +182,7 @@ fn acts_by(
     let words = parts.words.as_slice();
     match form {
         Form::Never => Ok(false),
-        Form::Defines => defines_near(alloc, known, words),
+        Form::Defines => defines_near(alloc, known, parts),
         Form::Base => base_acts(alloc, known, parts),
         Form::Uplow => pair_acts(alloc, known, parts),
         Form::Grouping => any_at(alloc, &known.reach.stood, words, 2),

@@ -10,12 +10,12 @@
 //! rules and definitions that can't act makes of texts.
 //!
 //! `parts` takes prefixes off lines, for `line_parts`. `form` has the form of an opcode's needs,
-//! `opcode` keeps it from line to line, and `operand` has the characters of operands. `known` has
-//! what is known of a table and an alphabet: `reach` which characters stand for which, by the
-//! capitals of `bases`; `classes` and `facts` what classes have, by `class_pairs`; `readings` what
-//! the lines that brl reads give, and `rules` their rules. `items` takes tests apart, which
-//! `tests_met` judges; `left_out` judges lines that are left out, and `kept` those that are read.
-//! `letters` has the letters before which `letsign` may stand.
+//! and `operand` has the characters of operands. `known` has what is known of a table and an
+//! alphabet: `reach` which characters stand for which, by the capitals of `bases`; `classes` and
+//! `facts` what classes have, by `class_pairs`; `readings` what the lines that brl reads give, and
+//! `rules` their rules. `items` takes tests apart, which `tests_met` judges; `left_out` judges
+//! lines that are left out, and `kept` those that are read. `letters` has the letters before which
+//! `letsign` may stand.
 //!
 //! Room 1, text and tables (docs/dev/ARCHITECTURE.md). The definitions begin in
 //! `specs/Acting.antt`, and `specs/Forms.antt` has the table of opcodes.
@@ -36,7 +36,6 @@ mod left_out;
 mod letters;
 mod line_parts;
 mod name_set;
-mod opcode;
 mod operand;
 mod parts;
 mod reach;

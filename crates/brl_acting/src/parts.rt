@@ -1,13 +1,14 @@
 //! A line as its needs see it: its prefixes, its opcode and its operands.
-ghost use Rattle.std.specs.Prelude.{◌≡◌, IfOk, map};
-ghost use Rattle.std.specs.Option.{ForSome};
+ghost use Rattle.std.specs.Prelude.{◌≡◌, IfOk, is_some, map, true};
 ghost use Rattle.brl_lines.specs.Views.{line_view};
+ghost use Rattle.brl_acting.specs.Capitals.{has_opcode as has_opcode_by};
+ghost use Rattle.brl_acting.specs.Forms.{form_of as form_by};
 ghost use Rattle.brl_acting.specs.PartsViews.{parts_view};
-ghost use Rattle.brl_acting.specs.Words.{after_prefixes as words_after_prefixes, classes_of_prefixes, names_class as is_class, opcode_of as opcode_of_line, parts_of as parts_by, table_line_view, prefix_words as words_of_prefixes, words_of as words_of_line};
+ghost use Rattle.brl_acting.specs.Words.{after_prefixes as words_after_prefixes, classes_of_prefixes, names_class as is_class, opcode_of as opcode_of_line, parts_of as parts_by, prefix_length as length_of_prefix, table_line_view, prefix_words as words_of_prefixes, words_of as words_of_line};
 
-use crate::form::{form_of, is_among};
+use crate::bases::has_opcode;
+use crate::form::{Form, form_of, is_among};
 use crate::line_parts::Parts;
-use crate::opcode::{Opcode, opcode_after, prefix_length};
 use crate::operand::{chars_at, word_at};
 use crate::table_line::TableLine;
 use brl_lines::Line;
@@ -23,6 +24,17 @@ fn words_of<'a>(alloc: Global, line: &Line<'a>) -> Result<Vec<&'a str>, AllocErr
         words.push(operand.text)?;
     }
     Ok(words)
+}
+
+/// How many words a prefix takes that begins with this one: 0 where it begins none.
+fn prefix_length(word: &str) -> usize
+    ensures { result ≡ length_of_prefix word.now }
+{
+    match word {
+        "noback" | "nofor" | "nocross" | "empmatchbefore" | "empmatchafter" => 1,
+        "before" | "after" => 2,
+        _ => 0,
+    }
 }
 
 /// The words after all prefixes.
@@ -74,8 +86,22 @@ fn classes_in<'a>(alloc: Global, prefixes: &[&'a str]) -> Result<Vec<&'a str>, A
     Ok(classes)
 }
 
-/// The parts of a line that may begin with prefixes.
-fn prefixed_parts<'a>(alloc: Global, line: &TableLine<'_, 'a>) -> Result<Parts<'a>, AllocError>
+/// The form of an opcode's needs. Where the line before has the same opcode, it is known.
+fn form_after(last: Option<&Parts<'_>>, word: &str) -> Option<Form>
+    ensures { result ≡ form_by word.now }
+{
+    match last {
+        Some(last) if has_opcode(last, word) => last.form,
+        _ => form_of(word),
+    }
+}
+
+/// The parts of a line that may begin with prefixes, after another line.
+fn prefixed_parts<'a>(
+    alloc: Global,
+    line: &TableLine<'_, 'a>,
+    last: Option<&Parts<'a>>,
+) -> Result<Parts<'a>, AllocError>
     ensures { IfOk result (λ parts. parts_view parts ≡ parts_by (table_line_view line.now)) }
 {
     let words = words_of(alloc, line.line)?;
@@ -88,17 +114,19 @@ fn prefixed_parts<'a>(alloc: Global, line: &TableLine<'_, 'a>) -> Result<Parts<'
         classes: classes_in(alloc, prefixes)?,
         words: Vec::from_slice(alloc, after)?,
         chars: chars_at(alloc, after, 1)?,
-        form: form_of(word_at(after, 0)),
+        form: form_after(last, word_at(after, 0)),
     })
 }
 
-/// The parts of a line that begins with its opcode.
+/// The parts of a line that begins with the opcode of another one. It has a form, so it begins no
+/// prefix.
 fn plain_parts<'a>(
     alloc: Global,
     line: &TableLine<'_, 'a>,
-    opcode: Opcode<'a>,
+    last: &Parts<'a>,
 ) -> Result<Parts<'a>, AllocError>
-    requires { opcode.word.now ≡ line.now.line.now.opcode.text.now }
+    requires known { is_some last.now.form ≡ true }
+    requires opcode { has_opcode_by line.now.line.now.opcode.text.now (parts_view last.now) ≡ true }
     ensures { IfOk result (λ parts. parts_view parts ≡ parts_by (table_line_view line.now)) }
 {
     let words = words_of(alloc, line.line)?;
@@ -109,22 +137,24 @@ fn plain_parts<'a>(
         classes: Vec::new(alloc),
         chars: chars_at(alloc, words.as_slice(), 1)?,
         words,
-        form: opcode.form,
+        form: last.form,
     })
 }
 
-/// The parts of a line, by its first word where that is its opcode.
+/// The parts of a line after another one.
 fn parts_of<'a>(
     alloc: Global,
     line: &TableLine<'_, 'a>,
-    opcode: Option<Opcode<'a>>,
+    last: Option<&Parts<'a>>,
 ) -> Result<Parts<'a>, AllocError>
-    requires { ForSome opcode (λ opcode. opcode.word.now ≡ line.now.line.now.opcode.text.now) }
     ensures { IfOk result (λ parts. parts_view parts ≡ parts_by (table_line_view line.now)) }
 {
-    match opcode {
-        Some(opcode) => plain_parts(alloc, line, opcode),
-        None => prefixed_parts(alloc, line),
+    let own = line.line;
+    match last {
+        Some(last) if last.form.is_some() && has_opcode(last, own.opcode.text) => {
+            plain_parts(alloc, line, last)
+        }
+        _ => prefixed_parts(alloc, line, last),
     }
 }
 
@@ -136,11 +166,9 @@ pub(crate) fn parts_of_lines<'a>(
     ensures { IfOk result (λ parts. map parts_view parts.items ≡ map parts_by (map table_line_view lines.now)) }
 {
     let mut parts = Vec::with_capacity(alloc, lines.len())?;
-    let mut opcode = None;
     for line in lines {
-        let own = line.line;
-        opcode = opcode_after(opcode, own.opcode.text);
-        parts.push(parts_of(alloc, line, opcode)?)?;
+        let own = parts_of(alloc, line, parts.last())?;
+        parts.push(own)?;
     }
     Ok(parts)
 }

@@ -1,5 +1,8 @@
 //! The lines of a whole table: which of them a cut keeps, and which can act.
 ghost use Rattle.std.specs.Prelude.{◌≡◌, ◌++◌, ◌+◌, ◌<◌, ◌^◌, ◌||◌, ℕ, List, IfOk, OnOk, flat_map, map};
+ghost use Rattle.std.proofs.Common.{rules};
+ghost use Rattle.std.specs.Cmp.Rules.{hashing};
+ghost use Rattle.std.specs.Hash as fed;
 ghost use Rattle.brl_lines.specs.GatherFaults.{gathered_view};
 ghost use Rattle.brl_lines.specs.Gathered.{left_view};
 ghost use Rattle.brl_lines.specs.Views.{line_view};
@@ -16,6 +19,7 @@ use brl_lines::{
 use brl_table::FaultyLine;
 use indexmap::IndexSet;
 use std::alloc::{AllocError, Global};
+use std::hash::{Hash, Hasher};
 
 /// A line that can act: its opcode, which comes after all prefixes; its place; and whether the cut
 /// keeps it.
@@ -26,8 +30,23 @@ pub struct ActingLine {
     pub kept: bool,
 }
 
-/// The place of a line: the path of its file, and its number from 1.
-type Place<'a> = (&'a str, usize);
+/// The place of a line: its number from 1, and the path of its file.
+#[derive(Clone, Copy, PartialEq, Eq)]
+struct Place<'a> {
+    line: usize,
+    path: &'a str,
+}
+
+impl Hash for Place<'_> {
+    ghost hash_input = { λ place. fed.usize place.line };
+
+    ghost respects_eq = { Prim.search (hashing, rules) };
+
+    /// Few lines have the same number, and a path has many characters.
+    fn hash<H: Hasher>(&self, state: &mut H) {
+        self.line.hash(state);
+    }
+}
 
 /// The places of lines that are left out.
 fn left_out_places(alloc: Global, left_out: &[FaultyLine]) -> Result<Vec<Place<'_>>, AllocError>
@@ -35,7 +54,10 @@ fn left_out_places(alloc: Global, left_out: &[FaultyLine]) -> Result<Vec<Place<'
 {
     let mut places = Vec::with_capacity(alloc, left_out.len())?;
     for faulty in left_out {
-        places.push((faulty.fault.file.as_str(), faulty.fault.line as usize))?;
+        places.push(Place {
+            line: faulty.fault.line as usize,
+            path: faulty.fault.file.as_str(),
+        })?;
     }
     Ok(places)
 }
@@ -65,8 +87,14 @@ fn push_row<'a>(
     ensures { OnOk result (map place_view places.new.items ≡ map place_view places.old.items ++ continued_at path.entry.now (place, row.now)) }
 {
     if goes_on(row) {
-        places.push((path, place + 1))?;
-        places.push((path, place + 2))?;
+        places.push(Place {
+            line: place + 1,
+            path,
+        })?;
+        places.push(Place {
+            line: place + 2,
+            path,
+        })?;
     }
     Ok(())
 }
@@ -108,7 +136,7 @@ fn insert_place<'a>(set: &mut IndexSet<Place<'a>>, place: Place<'a>) -> Result<(
 fn set_of<'a>(alloc: Global, places: &[Place<'a>]) -> Result<IndexSet<Place<'a>>, AllocError>
     ensures { IfOk result (λ set. Holds (map place_view places.now) set.keys) }
 {
-    let mut set = IndexSet::new(alloc);
+    let mut set = IndexSet::with_capacity(alloc, places.len())?;
     for place in places {
         insert_place(&mut set, *place)?;
     }
@@ -122,7 +150,10 @@ fn has_line(places: &IndexSet<Place<'_>>, line: &Line<'_>) -> bool
     if places.is_empty() {
         return false;
     }
-    places.contains(&(line.file, line.line as usize))
+    places.contains(&Place {
+        line: line.line as usize,
+        path: line.file,
+    })
 }
 
 /// A line of a table, where the first of these places are left out, and the others are one line

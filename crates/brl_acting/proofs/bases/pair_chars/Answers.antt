@@ -1,7 +1,7 @@
-use Rattle.std.proofs.Common.{◌∙◌, sym}
+use Rattle.std.proofs.Common.{sym}
 use Rattle.brl_acting.specs.PartsViews.{parts_view}
-use Rattle.brl_acting.proofs.RuleForms.{no_pair}
+use Rattle.brl_acting.proofs.OpcodeForms.{no_pair}
 use Rattle.brl_acting.proofs.bases.pair_chars.Goals as goal
 
-pub returns-then-is_rule : goal.returns-then-is_rule
-returns-then-is_rule c = sym (no_pair (parts_view c.args.parts.now) c.args.parts.now.form_is (sym c.is_rule.ensures ∙ c.if-is_rule.true))
+pub returns-then-not-tells_of_characters : goal.returns-then-not-tells_of_characters
+returns-then-not-tells_of_characters c = sym (no_pair (parts_view c.args.parts.now) c.args.parts.now.form_is cc)

@@ -1,7 +1,7 @@
 use Rattle.std.proofs.Common.{◌≡◌, false, sym}
 use Rattle.brl_acting.specs.PartsViews.{parts_view}
 use Rattle.brl_acting.specs.Readings.{is_rule}
-use Rattle.brl_acting.proofs.RuleForms.{no_words}
+use Rattle.brl_acting.proofs.OpcodeForms.{no_words}
 use Rattle.brl_acting.proofs.class_pairs.makes_words.Goals as goal
 
 pub returns-then-not-is_rule : goal.returns-then-not-is_rule

@@ -19,7 +19,7 @@ returns c =
     let nofor = c.is_among.ensures ∙ sym (list_any-map (bytes_eq (codes "nofor")) now c.prefix_words-prefixes.result.now) ∙ ap (list_any (bytes_eq (codes "nofor"))) prefixes in
     let classes = c.in_ok-classes_in.ensures ∙ ap classes_of_prefixes prefixes in
     let rest = ap (map now) c.in_ok-from_slice.ensures.items ∙ after in
-    let form = c.form_of.ensures ∙ ap form_of (c.word_at.ensures ∙ ap (λ (ws : List (List ℕ)). word_at ws 0) after) in
+    let form = c.form_after.ensures ∙ ap form_of (c.word_at.ensures ∙ ap (λ (ws : List (List ℕ)). word_at ws 0) after) in
     λ j. record {
       kept = c.args.line.now.kept;
       continued = c.args.line.now.continued;

@@ -1,5 +1,5 @@
 use Rattle.std.proofs.Common.{◌≡◌, ◌∙◌}
-use Rattle.brl_acting.specs.Capitals.{near_by, reached, turned}
+use Rattle.brl_acting.specs.Capitals.{near_by, reached}
 use Rattle.brl_acting.specs.Sets.{set_view}
 use Rattle.brl_acting.proofs.reach.reach_of.Goals as goal
 

@@ -1,4 +1,4 @@
-use Rattle.std.proofs.Common.{◌≡◌, map, take}
+use Rattle.std.proofs.Common.{map, take}
 use Rattle.brl_acting.specs.WholeTable.{Holds, place_view}
 use Rattle.brl_acting.proofs.whole_table.set_of.Given as goal
 
