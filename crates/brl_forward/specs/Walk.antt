@@ -14,7 +14,8 @@ IsAt t text at = (at.here ≡ context_at t text at.start) × (at.start ≤ lengt
 pub record Takes (t : TableView) (text : List ℕ) (at : Position) (old new : List ℕ) (taken : Taken) : Type 0 where
   pub within : at.start < length text
   pub rule : taken.rule ≡ (step_at t text at.start).rule
-  pub indicators : taken.indicators ≡ (step_at t text at.start).indicators
+  pub before : taken.before ≡ length old
+  pub signs : taken.after_signs ≡ length old + (step_at t text at.start).indicators
   pub cells : new ≡ old ++ (step_at t text at.start).cells
   pub end : taken.next.start ≡ at.start + (step_at t text at.start).length
   pub some : at.start < taken.next.start

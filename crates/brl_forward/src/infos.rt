@@ -24,7 +24,7 @@ pub(crate) fn infos_of<'a>(
     let mut infos = Vec::with_capacity(alloc, text.len())?;
     for (place, character) in text.iter().enumerate() {
         match table.info(*character) {
-            Some(info) => infos.push(info)?,
+            Some(info) => infos.push_reserved(info),
             None => return Err(Failure::Fault(ForwardFault::UnknownChar(place))),
         }
     }

@@ -8,10 +8,10 @@ ghost use Rattle.brl_forward.specs.Faults.{IsFaultOf};
 
 use crate::ForwardFault;
 use crate::infos::{infos_of, known_infos_of};
-use crate::walk::{Position, take_step};
+use crate::walk::walk;
 use brl_cells::Cell;
 use brl_failure::Failure;
-use brl_rules::{Info, Table, translation_laws};
+use brl_rules::{Info, Table};
 use std::alloc::{AllocError, Global};
 
 /// The cells of a text; `UnknownChar` exactly where the table doesn't define a character, with the
@@ -52,11 +52,15 @@ fn cells_of(
     requires { AreInfosOf table.now text.now infos.now }
     ensures { IfOk result (λ cells. cells.items ≡ translation table.now text.now) }
 {
-    translation_laws();
     let mut cells = Vec::with_capacity(alloc, text.len())?;
-    let mut at = Position::START;
-    while let Some(step) = take_step(table, text, infos, at, &mut cells)? {
-        at = step.next;
-    }
+    walk(
+        alloc,
+        table,
+        text,
+        infos,
+        false,
+        &mut cells,
+        &mut Vec::new(alloc),
+    )?;
     Ok(cells)
 }

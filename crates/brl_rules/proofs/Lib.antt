@@ -10,7 +10,8 @@ pub mod FitsAtPosition
 pub mod ChosenRule
 pub mod UniqueRanking
 pub mod ComputedRanking
-pub mod TreeInsert
+pub mod PageSteps
+pub mod TreeNodes
 pub mod TreeContents
 pub mod TreeWalk
 pub mod FirstInfo

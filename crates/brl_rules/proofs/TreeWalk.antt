@@ -20,6 +20,7 @@ use Rattle.brl_rules.proofs.RankWeight.{level-length}
 use Rattle.brl_rules.specs.Tree.{is_just, numbers, ends_of}
 use Rattle.brl_rules.proofs.TakenLengths.{fits-Takes, starts_with-length}
 use Rattle.brl_rules.proofs.Facts.{some_is, same_number, not_both, nat_eq-itself}
+use Rattle.brl_rules.proofs.TreeContents.{just-itself}
 
 -- ---- the first place at which a test holds
 
@@ -162,20 +163,12 @@ four true true b a = sym (both (b && a))
 four true false b a = sym (and-nil (b && a))
 four false e b a = refl
 
-under : (b x y : Bool) → (b ≡ true → x ≡ y) → b && x ≡ b && y
-under true x y h = h refl
-under false x y h = refl
-
 under-true : (b x : Bool) → (b ≡ true → x ≡ true) → b && x ≡ b
 under-true true x h = h refl
 under-true false x h = refl
 
-one-le : (w : ℕ) → 1 ≤ w → nat_eq w (0 + 1) ≡ nat_le w (0 + 1)
-one-le w h = grind (arith, nat_tests)
-
-just-itself : (chars : List ℕ) → is_just chars chars ≡ true
-just-itself [] = refl
-just-itself (x ∷ chars) = ap (λ b. b && is_just chars chars) (nat_eq-itself x) ∙ just-itself chars
+not-zero : (w : ℕ) → 1 ≤ w → nat_le w 0 ≡ false
+not-zero w h = grind (arith, nat_tests)
 
 -- a start of the rest with more than k characters has its character k
 longer-front : (k : ℕ) (behind others : List ℕ) (d : ℕ) → starts_with nat_eq behind others ≡ true → k < length others
@@ -233,12 +226,14 @@ module _ (t : TableView) (before : Class) (rest : List ℕ) (first : ℕ) (behin
       let x-is : x ≡ first = same_number x first (first_so (nat_eq x first) (starts_with nat_eq behind others) both) in
       (others, ap (λ y. y ∷ others) x-is, second_so (nat_eq x first) (starts_with nat_eq behind others) both)
 
-  -- the rules of one character are at the first node
-  at_first : position_from (λ r. fits t before rest r && nat_eq (length_of r) (0 + 1)) 0 t.rules
-      ≡ position_from (λ r. fits t before rest r && nat_le (length_of r) (0 + 1)) 0 t.rules
-  at_first =
-      position-agree (λ r. fits t before rest r && nat_eq (length_of r) (0 + 1)) (λ r. fits t before rest r && nat_le (length_of r) (0 + 1)) 0 t.rules
-      (λ j r there. under (fits t before rest r) (nat_eq (length_of r) (0 + 1)) (nat_le (length_of r) (0 + 1)) (λ does. one-le (length_of r) (fits-Takes t before rest r does).some))
+  -- no rule that fits has no characters
+  pub rest-start : None ≡ position_from (λ r. fits t before rest r && nat_le (length_of r) 0) 0 t.rules
+  rest-start =
+      sym (position-none (λ r. fits t before rest r && nat_le (length_of r) 0) 0 t.rules
+      (λ j r there. false_from_ne_true (fits t before rest r && nat_le (length_of r) 0)
+      (λ does.
+      let some = (fits-Takes t before rest r (first_so (fits t before rest r) (nat_le (length_of r) 0) does)).some in
+      not_both (nat_le (length_of r) 0) (second_so (fits t before rest r) (nat_le (length_of r) 0) does) (not-zero (length_of r) some))))
 
   -- where no rule that fits has more characters, the longest so far is the first in rank
   no_more : (k : ℕ) → ((j : ℕ) (r : Rule) → slice_get t.rules j ≡ Some r → fits t before rest r ≡ true → length_of r ≤ k)
@@ -247,25 +242,21 @@ module _ (t : TableView) (before : Class) (rest : List ℕ) (first : ℕ) (behin
       position-agree (λ r. fits t before rest r && nat_le (length_of r) k) (fits t before rest) 0 t.rules
       (λ j r there. under-true (fits t before rest r) (nat_le (length_of r) k) (λ does. le-leb (length_of r) k (h j r there does)))
 
-  pub rest-first : find (place_allows_number t before rest) (ends_of t.rules (first ∷ []))
-      ≡ position_from (λ r. fits t before rest r && nat_le (length_of r) (0 + 1)) 0 t.rules
-  rest-first = at_node 0 (omega arith) ∙ at_first
-
-  pub rest-next : (k : ℕ) (best : Option ℕ) → k < length behind → IsInRank t.rules
-      → best ≡ position_from (λ r. fits t before rest r && nat_le (length_of r) (k + 1)) 0 t.rules
-      → option_or (find (place_allows_number t before rest) (ends_of t.rules (first ∷ take (k + 1) behind))) best
-      ≡ position_from (λ r. fits t before rest r && nat_le (length_of r) (k + 1 + 1)) 0 t.rules
+  pub rest-next : (k : ℕ) (best : Option ℕ) → k ≤ length behind → IsInRank t.rules
+      → best ≡ position_from (λ r. fits t before rest r && nat_le (length_of r) k) 0 t.rules
+      → option_or (find (place_allows_number t before rest) (ends_of t.rules (first ∷ take k behind))) best
+      ≡ position_from (λ r. fits t before rest r && nat_le (length_of r) (k + 1)) 0 t.rules
   rest-next k best within rank e =
-      ap (option_or (find (place_allows_number t before rest) (ends_of t.rules (first ∷ take (k + 1) behind)))) e
-      ∙ ap (λ found. option_or found (position_from (λ r. fits t before rest r && nat_le (length_of r) (k + 1)) 0 t.rules)) (at_node (k + 1) (omega (arith, within)))
-      ∙ sym (rank-step (fits t before rest) (k + 1) 0 t.rules rank)
+      ap (option_or (find (place_allows_number t before rest) (ends_of t.rules (first ∷ take k behind)))) e
+      ∙ ap (λ found. option_or found (position_from (λ r. fits t before rest r && nat_le (length_of r) k) 0 t.rules)) (at_node k within)
+      ∙ sym (rank-step (fits t before rest) k 0 t.rules rank)
 
   -- the rest has no more characters that rules are compared with
-  pub rest-end : (k : ℕ) → length behind ≤ k
-      → position_from (λ r. fits t before rest r && nat_le (length_of r) (k + 1)) 0 t.rules ≡ position_from (fits t before rest) 0 t.rules
-  rest-end k h = no_more (k + 1) (λ j r there does. short r (front r.chars (fits-matches r does)))
+  pub rest-end : (k : ℕ) → length behind < k
+      → position_from (λ r. fits t before rest r && nat_le (length_of r) k) 0 t.rules ≡ position_from (fits t before rest) 0 t.rules
+  rest-end k h = no_more k (λ j r there does. short r (front r.chars (fits-matches r does)))
     where
-      short : (r : Rule) → (others : List ℕ) × (r.chars ≡ first ∷ others) × (starts_with nat_eq behind others ≡ true) → length_of r ≤ k + 1
+      short : (r : Rule) → (others : List ℕ) × (r.chars ≡ first ∷ others) × (starts_with nat_eq behind others ≡ true) → length_of r ≤ k
       short r f =
           let long : length_of r ≡ suc (length f.0) = ap length f.1 in
           omega (arith, long, starts_with-length behind f.0 f.2, h)

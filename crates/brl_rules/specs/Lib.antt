@@ -12,4 +12,5 @@ pub mod Rest
 pub mod Position
 pub mod Views
 pub mod Examples
+pub mod Pages
 pub mod Tree

@@ -3,7 +3,7 @@
 -- the one defined first is tested first. That of rules of one length those with a place of their
 -- own come before `always` rules, and that else the earlier line is first, also of other strings,
 -- are this project's own choices: at one position rules of one length differ in case alone.
-use Rattle.std.specs.Prelude.{ℕ, ◌≡◌, ◌&&◌, ◌||◌, ◌==◌, Bool, false, not, nat_lt, AllPairs, List, [], ◌∷◌, length, filter, if◌then◌else◌}
+use Rattle.std.specs.Prelude.{◌≡◌, ◌&&◌, ◌||◌, ◌==◌, Bool, false, not, nat_lt, AllPairs, List, [], ◌∷◌, length, filter, if◌then◌else◌}
 use Rattle.std.specs.List.Sorted.{ties}
 use Rattle.brl_rules.specs.declared.rule.Rule.{Rule}
 use Rattle.brl_rules.specs.Places.{is_placed}

@@ -1,12 +1,12 @@
 //! The rule that a table chooses at the start of a rest of a text, found by the tree of its rules.
-ghost use Rattle.std.specs.Prelude.{◌≡◌, [], ◌<◌, ◌≤◌, length, slice_get, IfSome, Some};
+ghost use Rattle.std.specs.Prelude.{◌≡◌, ◌<◌, ◌≤◌, length, slice_get, IfSome, Some};
 ghost use Rattle.std.specs.List.{find, position_from};
 ghost use Rattle.brl_rules.specs.Choice.{fits, place_allows, place_allows_number, chosen, chosen_number, IsChoice};
 ghost use Rattle.brl_rules.specs.Infos.{first_info};
 ghost use Rattle.brl_rules.specs.Text.{fold_of, is_in_caps_run};
-ghost use Rattle.brl_rules.specs.Tree.{ends_at, mark_of};
+ghost use Rattle.brl_rules.specs.Tree.{mark_of};
 
-use crate::tree::Node;
+use crate::tree::RuleTree;
 use crate::{Class, Cond, Info, Rule, Table, holds};
 use bitflags::Flags;
 use brl_cells::Cell;
@@ -100,17 +100,21 @@ impl Table {
         ensures { result ≡ position_from (fits self.now before rest.now) 0 self.now.rules }
     {
         let (_, others) = rest.split_first()?;
-        let mut node = self.root(fold)?;
-        let mut best = self.rule_at(node, before, rest);
-        for character in others {
+        let tree = self.tree();
+        let mut node = tree.branch(RuleTree::ROOT, fold)?;
+        let mut best = None;
+        for taken in 0..rest.len() {
+            best = self.first_allowed(tree.rules(node), before, rest).or(best);
+            let Some(character) = others.get(taken) else {
+                return best;
+            };
             let Some(mark) = self.mark_of(run, *character) else {
                 return best;
             };
-            let Some(branch) = node.branch(mark) else {
+            let Some(branch) = tree.branch(node, mark) else {
                 return best;
             };
             node = branch;
-            best = self.rule_at(node, before, rest).or(best);
         }
         best
     }
@@ -131,11 +135,11 @@ impl Table {
         }
     }
 
-    /// The first of the rules ending at a node whose place allows it at the start of `rest`.
-    fn rule_at(&self, node: &Node, before: Class, rest: &[char]) -> Option<u32>
-        ensures { result ≡ find (place_allows_number self.now before rest.now) (ends_at node.now []) }
+    /// The first of the rules with these numbers whose place allows it at the start of `rest`.
+    fn first_allowed(&self, numbers: &[u32], before: Class, rest: &[char]) -> Option<u32>
+        ensures { result ≡ find (place_allows_number self.now before rest.now) numbers.now }
     {
-        node.rules()
+        numbers
             .iter()
             .copied()
             .find(|number| self.place_allows_number(before, rest, *number))

@@ -11,6 +11,7 @@ mod choice;
 mod class;
 mod context;
 mod laws;
+mod pages;
 mod parts;
 mod place;
 mod rule;

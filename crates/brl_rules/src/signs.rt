@@ -123,7 +123,7 @@ impl Table {
         let Some(info) = self.info(*first) else {
             return Ok(());
         };
-        self.push_indicators_of(here, run, info, cells)
+        self.push_used_indicators(here, run, info, cells)
     }
 
     /// Appends the cells of the indicators before a character with this info, which is in a run of
@@ -140,6 +140,19 @@ impl Table {
         if !may_use_signs(here, info) {
             return Ok(());
         }
+        self.push_used_indicators(here, run, info, cells)
+    }
+
+    /// Does what `push_indicators_of` does, for a character of any info.
+    fn push_used_indicators(
+        &self,
+        here: Context,
+        run: bool,
+        info: &Info,
+        cells: &mut Vec<Cell>,
+    ) -> Result<(), AllocError>
+        ensures { OnOk result (cells.new.items ≡ cells.old.items ++ indicators_of self.now here run info.now) }
+    {
         self.push_sign(here, run, info, Sign::EndCapsWord, cells)?;
         self.push_sign(here, run, info, Sign::NoContractSign, cells)?;
         self.push_sign(here, run, info, Sign::NumSign, cells)?;

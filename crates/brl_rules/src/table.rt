@@ -1,16 +1,16 @@
 //! A table, and what it gives for characters, rules, indicators and files.
-ghost use Rattle.std.specs.Prelude.{◌≡◌, ◌<◌, ◌≤◌, ◌∷◌, [], ℕ, List, length, map, slice_get, Some, IfOk, OnOk, IfSome, option_copied};
+ghost use Rattle.std.specs.Prelude.{◌≡◌, ◌<◌, ◌≤◌, length, map, slice_get, Some, IfOk, OnOk, IfSome, option_copied};
 ghost use Rattle.std.specs.List.Sorted.{IsPermutation};
-ghost use Rattle.std.specs.Option.{option_map_or};
 ghost use Rattle.std.specs.Ordering.{is_lt};
 ghost use Rattle.brl_rules.specs.Limits.{AreParts, IsTable};
 ghost use Rattle.brl_rules.specs.Rank.{IsInRank, IsRanking, outranks};
 ghost use Rattle.brl_rules.specs.TableView.{info_of, indicator_cells};
 ghost use Rattle.brl_rules.specs.Text.{classes_at as classes_there, classes_of};
-ghost use Rattle.brl_rules.specs.Tree.{ends_at, ends_of};
+ghost use Rattle.brl_rules.specs.Tree.{IsTreeOf};
 ghost use Rattle.brl_rules.specs.Views.{parts_view};
 
-use crate::tree::{Node, RuleTree};
+use crate::pages::Pages;
+use crate::tree::RuleTree;
 use crate::{Class, Info, Notice, Rule, Sign, TableParts};
 use brl_cells::Cell;
 use std::alloc::AllocError;
@@ -22,20 +22,22 @@ use std::marker::Model;
 pub struct Table {
     /// The parts, with the rules in rank.
     parts: TableParts,
+    /// The places of the characters among the parts.
+    pages: Pages,
     /// The tree of the rules.
     tree: RuleTree,
 }
 
 impl Model for Table {
     ghost use Rattle.brl_rules.specs.TableView.{TableView};
-    ghost use Rattle.brl_rules.specs.Tree.{IsTableWithTree};
+    ghost use Rattle.brl_rules.specs.Tree.{IsIndexed};
     ghost use Rattle.brl_rules.specs.Views.{parts_view};
 
     ghost Value = { TableView };
 
     ghost view = { λ t. parts_view t.parts };
 
-    ghost invariant = { λ t. IsTableWithTree (parts_view t.parts) t.tree };
+    ghost invariant = { λ t. IsIndexed (parts_view t.parts) t.pages t.tree };
 }
 
 impl Table {
@@ -51,8 +53,9 @@ impl Table {
         let mut parts = parts;
         rank(&mut parts.rules)?;
         let alloc = *parts.rules.allocator();
+        let pages = Pages::of_characters(alloc, &parts.characters)?;
         let tree = RuleTree::of_rules(alloc, parts.rules.as_slice())?;
-        Ok(Table { parts, tree })
+        Ok(Table { parts, pages, tree })
     }
 
     /// A law: every table keeps its limits, and its rules are in rank.
@@ -67,7 +70,11 @@ impl Table {
         ensures value { option_copied result ≡ info_of self.now character }
         ensures number { IfSome result (λ info. info.now.number < 1024) }
     {
-        self.parts.characters.get(&character)
+        let (_, info) = self
+            .parts
+            .characters
+            .get_index(self.pages.place(character))?;
+        Some(info)
     }
 
     /// The classes of a character: none where the table doesn't define it.
@@ -115,13 +122,12 @@ impl Table {
         self.parts.rules.as_slice()
     }
 
-    /// The node of the rules that begin with this character. The characters that follow lead from
-    /// it to the numbers of the rules with just these characters, in rank.
-    pub(crate) fn root(&self, first: char) -> Option<&Node>
-        ensures node { (at : List ℕ) → option_map_or (λ root. ends_at root at) (option_copied result) [] ≡ ends_of self.now.rules (first ∷ at) }
+    /// The tree of the used rules, which are in rank.
+    pub(crate) fn tree(&self) -> &RuleTree
+        ensures tree { IsTreeOf self.now.rules result.now }
         ensures rank { IsInRank self.now.rules }
     {
-        self.tree.root(first)
+        &self.tree
     }
 
     /// The cells of an indicator, at most 16: none where it isn't defined.

@@ -1,98 +1,59 @@
 //! The tree of a table's rules, by their characters. It finds the longest rule that fits in one
 //! walk over a text.
-ghost use Rattle.std.specs.Prelude.{◌≡◌, ◌==◌, ◌≤◌, ◌∷◌, [], ℕ, List, IfOk, OnOk, length, option_copied};
-ghost use Rattle.std.specs.List.{position};
-ghost use Rattle.std.specs.Option.{option_map_or};
-ghost use Rattle.brl_rules.specs.declared.tree.Node.{out-Node};
-ghost use Rattle.brl_rules.specs.Tree.{ends_at, ends_in, IsTreeOf, with_rule};
+ghost use Rattle.std.specs.Prelude.{◌≡◌, ◌<◌, ◌≤◌, [], ℕ, List, IfOk, OnOk, Some, None, length};
+ghost use Rattle.brl_rules.specs.Tree.{branch_of, chain_of, ends_at, node_at, rules_at, with_rule, IsTree, IsTreeOf};
 
 use crate::Rule;
-use indexmap::IndexMap;
 use std::alloc::{AllocError, Global};
+use std::marker::Model;
 
-/// A node of the tree. A contract reads it by the numbers of the rules to which characters lead
-/// from it.
+/// The number of chains of nodes.
+const CHAINS: usize = 16384;
+
+/// A node of the tree.
 #[derive(Drop)]
-pub struct Node {
+struct Node {
+    /// The node from which a character leads here.
+    parent: usize,
     /// The character that leads here.
     mark: char,
+    /// The node after this one in its chain. 0 at the end.
+    next: usize,
     /// The numbers of the rules that end here, in rank.
     rules: Vec<u32>,
-    branches: Vec<Node>,
 }
 
-impl Node {
-    /// A node without rules.
-    pub fn new(alloc: Global, mark: char) -> Node
-        ensures mark { (out-Node result).mark ≡ mark }
-        ensures empty { (at : List ℕ) → ends_at result at ≡ [] }
-    {
-        Node {
-            mark,
-            rules: Vec::new(alloc),
-            branches: Vec::new(alloc),
-        }
-    }
-
-    /// Inserts the rule with this number as the last one. From here on it has these characters.
-    pub fn insert(&mut self, alloc: Global, chars: &[char], number: u32) -> Result<(), AllocError>
-        ensures mark { OnOk result ((out-Node self.new).mark ≡ (out-Node self.old).mark) }
-        ensures ends { OnOk result ((at : List ℕ) → ends_at self.new at ≡ with_rule chars.now number at (ends_at self.old at)) }
-    {
-        let Some((first, rest)) = chars.split_first() else {
-            self.rules.push(number)?;
-            return Ok(());
-        };
-        match self.place_of(*first) {
-            Some(place) => {
-                self.branches[place].insert(alloc, rest, number)?;
-            }
-            None => {
-                let mut node = Node::new(alloc, *first);
-                node.insert(alloc, rest, number)?;
-                self.branches.push(node)?;
-            }
-        }
-        Ok(())
-    }
-
-    /// The place of the branch to which a character leads.
-    fn place_of(&self, mark: char) -> Option<usize>
-        ensures { result ≡ position (λ branch. (out-Node branch).mark == mark) (out-Node self.now).branches.items }
-    {
-        self.branches.iter().position(|branch| branch.mark == mark)
-    }
-
-    /// The numbers of the rules that end here.
-    pub fn rules(&self) -> &[u32]
-        ensures { result.now ≡ ends_at self.now [] }
-    {
-        self.rules.as_slice()
-    }
-
-    /// The branch to which a character leads.
-    pub fn branch(&self, mark: char) -> Option<&Node>
-        ensures { (at : List ℕ) → option_map_or (λ branch. ends_at branch at) (option_copied result) [] ≡ ends_at self.now (mark ∷ at) }
-    {
-        let place = self.place_of(mark)?;
-        Some(&self.branches[place])
-    }
-}
-
-/// A tree of rules. A contract reads it by the numbers of the rules with just the given characters.
+/// A tree of rules. Its nodes are numbered, and 0 is the root. A contract sees a `Tree`.
+///
+/// A node is in one of many chains, by its parent and its mark. So a branch is found at once,
+/// however many siblings it has.
 #[derive(Drop)]
 pub struct RuleTree {
-    /// The nodes of the first characters of rules.
-    roots: IndexMap<char, Node>,
+    nodes: Vec<Node>,
+    /// The first node of each chain. 0 where it has none.
+    chains: Vec<usize>,
+}
+
+impl Model for RuleTree {
+    ghost use Rattle.brl_rules.specs.Tree.{Tree, IsTree};
+
+    ghost Value = { Tree };
+
+    ghost view = { λ t. record { nodes = t.nodes.items; chains = t.chains.items } };
+
+    ghost invariant = { λ t. IsTree (record { nodes = t.nodes.items; chains = t.chains.items }) };
 }
 
 impl RuleTree {
+    /// The number of the root.
+    pub const ROOT: usize = 0;
+
     /// The tree of these rules, numbered from 0.
     pub fn of_rules(alloc: Global, rules: &[Rule]) -> Result<RuleTree, AllocError>
         requires { length rules.now ≤ 4096 }
         ensures { IfOk result (IsTreeOf rules.now) }
     {
-        let mut tree = RuleTree::new(alloc);
+        let mut tree = RuleTree::new(alloc)?;
         for (number, rule) in rules.iter().enumerate() {
             tree.insert(alloc, rule.chars.as_slice(), number as u32)?;
         }
@@ -100,37 +61,87 @@ impl RuleTree {
     }
 
     /// A tree without rules.
-    fn new(alloc: Global) -> RuleTree
-        ensures { (c : ℕ) (at : List ℕ) → ends_in result c at ≡ [] }
+    fn new(alloc: Global) -> Result<RuleTree, AllocError>
+        ensures { IfOk result (λ tree. (at : List ℕ) → ends_at tree 0 at ≡ []) }
     {
-        RuleTree {
-            roots: IndexMap::new(alloc),
-        }
+        let root = Node {
+            parent: 0,
+            mark: '\0',
+            next: 0,
+            rules: Vec::new(alloc),
+        };
+        let mut nodes = Vec::new(alloc);
+        nodes.push(root)?;
+        let chains = Vec::from_elem(alloc, 0, CHAINS)?;
+        Ok(RuleTree { nodes, chains })
     }
 
     /// Inserts the rule with this number and these characters as the last one.
     fn insert(&mut self, alloc: Global, chars: &[char], number: u32) -> Result<(), AllocError>
-        ensures { OnOk result ((c : ℕ) (at : List ℕ) →
-            ends_in self.new c at ≡ with_rule chars.now number (c ∷ at) (ends_in self.old c at)) }
+        ensures { OnOk result ((at : List ℕ) → ends_at self.new 0 at ≡ with_rule chars.now number at (ends_at self.old 0 at)) }
     {
-        let Some((first, rest)) = chars.split_first() else {
-            return Ok(());
-        };
-        match self.roots.get_mut(first) {
-            Some(root) => root.insert(alloc, rest, number)?,
-            None => {
-                let mut root = Node::new(alloc, *first);
-                root.insert(alloc, rest, number)?;
-                self.roots.insert(*first, root)?;
-            }
+        let mut node = RuleTree::ROOT;
+        for character in chars {
+            node = match self.branch(node, *character) {
+                Some(branch) => branch,
+                None => self.push_branch(alloc, node, *character)?,
+            };
         }
+        self.nodes[node].rules.push(number)?;
         Ok(())
     }
 
-    /// The node of the rules that begin with this character.
-    pub fn root(&self, first: char) -> Option<&Node>
-        ensures { (at : List ℕ) → option_map_or (λ root. ends_at root at) (option_copied result) [] ≡ ends_in self.now first at }
+    /// Adds the branch to which a character leads from a node, and answers its number.
+    fn push_branch(&mut self, alloc: Global, node: usize, mark: char) -> Result<usize, AllocError>
+        requires within { node < length self.old.nodes }
+        requires none { branch_of self.old node mark ≡ None }
+        ensures branch { IfOk result (λ branch. branch_of self.new node mark ≡ Some branch) }
+        ensures kept { OnOk result ((at : List ℕ) (there : ℕ) → node_at self.old 0 at ≡ Some there → node_at self.new 0 at ≡ Some there) }
+        ensures ends { OnOk result ((at : List ℕ) → ends_at self.new 0 at ≡ ends_at self.old 0 at) }
     {
-        self.roots.get(&first)
+        let chain = chain_of_branch(node, mark);
+        let number = self.nodes.len();
+        self.nodes.push(Node {
+            parent: node,
+            mark,
+            next: self.chains[chain],
+            rules: Vec::new(alloc),
+        })?;
+        self.chains[chain] = number;
+        Ok(number)
     }
+
+    /// The numbers of the rules that end at a node.
+    pub fn rules(&self, node: usize) -> &[u32]
+        ensures { result.now ≡ rules_at self.now node }
+    {
+        match self.nodes.get(node) {
+            Some(node) => node.rules.as_slice(),
+            None => &[],
+        }
+    }
+
+    /// The branch to which a character leads from a node.
+    pub fn branch(&self, node: usize, mark: char) -> Option<usize>
+        ensures branch { result ≡ branch_of self.now node mark }
+        ensures tree { IsTree self.now }
+    {
+        let mut number = self.chains[chain_of_branch(node, mark)];
+        while number > 0 {
+            let branch = self.nodes.get(number)?;
+            if branch.mark == mark && branch.parent == node {
+                return Some(number);
+            }
+            number = branch.next;
+        }
+        None
+    }
+}
+
+/// The chain of the branch to which a character leads from a node.
+fn chain_of_branch(node: usize, mark: char) -> usize
+    ensures chain { result ≡ chain_of node mark }
+    ensures within { result < 16384 }
+{
+    (node % CHAINS * 37 + mark as usize) % CHAINS
 }

@@ -173,7 +173,10 @@ fn set_chars(text: &str, buffer: &mut Vec<char>) -> Result<(), AllocError>
 {
     buffer.clear();
     for character in text.chars() {
-        buffer.push(character)?;
+        if buffer.len() == buffer.capacity() {
+            buffer.reserve(1)?;
+        }
+        buffer.push_reserved(character);
     }
     Ok(())
 }
@@ -194,14 +197,27 @@ fn push_mark(form: Form, cell: Cell, output: &mut Vec<u8>) -> Result<(), Failure
 {
     match form {
         Form::Ascii => match to_ascii(cell) {
-            Some(mark) => output.push(mark)?,
+            Some(mark) => append(&[mark], output)?,
             None => return Err(Failure::Fault(LineFault::NoAscii)),
         },
         Form::Unicode => {
             let mut bytes = [0; 4];
             let mark = to_unicode(cell).encode_utf8(&mut bytes);
-            output.extend_from_slice(mark.as_bytes())?;
+            append(mark.as_bytes(), output)?;
         }
+    }
+    Ok(())
+}
+
+/// Appends bytes, which are few.
+fn append(more: &[u8], output: &mut Vec<u8>) -> Result<(), AllocError>
+    ensures { OnOk result (output.new.items ≡ output.old.items ++ more.now) }
+{
+    if output.capacity() < output.len() + more.len() {
+        output.reserve(more.len())?;
+    }
+    for byte in more {
+        output.push_reserved(*byte);
     }
     Ok(())
 }

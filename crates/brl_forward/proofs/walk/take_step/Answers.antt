@@ -40,9 +40,10 @@ returns-clause-taken c =
     record {
       within = within;
       rule = choice.number ∙ ap (λ s. s.rule) step;
-      indicators = omega (arith, lengths, c.len.ensures, c.len-before.ensures) ∙ ap (λ s. s.indicators) step;
+      before = omega (arith, c.len-before.ensures, c.args.cells.now.ok);
+      signs = omega (arith, lengths, c.len-after_signs.ensures, ap (λ s. s.indicators) step);
       cells =
-          c.in_ok-extend_from_slice.ensures.items ∙ ap (λ cells. cells ++ c.choice_of-choice.result.cells.now) signs ∙ append_assoc old (indicators t here rest) c.choice_of-choice.result.cells.now
+          c.in_ok-append.ensures ∙ ap (λ cells. cells ++ c.choice_of-choice.result.cells.now) signs ∙ append_assoc old (indicators t here rest) c.choice_of-choice.result.cells.now
           ∙ ap (λ cells. old ++ (indicators t here rest ++ cells)) choice.cells ∙ ap (λ s. old ++ s.cells) step;
       end = ap (λ count. start + count) (choice.taken ∙ ap (λ s. s.length) step);
       some = omega (arith, c.choice_of-choice.ensures.some);

@@ -1,4 +1,4 @@
-use Rattle.std.proofs.Common.{length, arith, ap, ◌∙◌, ◌∷◌}
+use Rattle.std.proofs.Common.{length, arith, ap, ◌∙◌}
 use Rattle.std.proofs.lemmas.List.Sorted.{All-permutation, length_permutation}
 use Rattle.brl_rules.specs.Limits.{IsRule}
 use Rattle.brl_rules.specs.Tree.{ends_of}
@@ -25,7 +25,8 @@ invariant_of-result c =
             };
             in_rank = c.in_ok-rank.ensures.ranking.higher_first;
           };
-      is_tree = λ x at. c.in_ok-tree.ensures x at ∙ ap (λ rules. ends_of rules (x ∷ at)) c.as_slice.ensures.value;
+      are_pages = c.in_ok-pages.ensures;
+      is_tree = λ at. c.in_ok-tree.ensures at ∙ ap (λ rules. ends_of rules at) c.as_slice.ensures.value;
     }
 
 pub of_rules-requires : goal.of_rules-requires

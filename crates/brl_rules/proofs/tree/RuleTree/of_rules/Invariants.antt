@@ -1,8 +1,7 @@
-use Rattle.std.proofs.Common.{◌≡◌, ℕ, List, ◌∷◌, drop}
-use Rattle.brl_rules.specs.Tree.{ends_in, ends_of}
+use Rattle.std.proofs.Common.{◌≡◌, ℕ, List, drop}
+use Rattle.brl_rules.specs.Tree.{ends_at, ends_of}
 use Rattle.brl_rules.proofs.TreeContents.{inserted}
 use Rattle.brl_rules.proofs.tree.RuleTree.of_rules.Given as goal
 
 abbrev pub invariant-loop-number : goal.invariant-loop-number
-invariant-loop-number l =
-    (c : ℕ) (at : List ℕ) → inserted (c ∷ at) l.number (drop l.number l.rules) (ends_in l.tree c at) ≡ ends_of l.rules (c ∷ at)
+invariant-loop-number l = (at : List ℕ) → inserted at l.number (drop l.number l.rules) (ends_at l.tree 0 at) ≡ ends_of l.rules at

@@ -1,0 +1,15 @@
+use Rattle.std.proofs.Common.{◌≡◌, ◌-◌, ◌++◌, length, IsTrue}
+use Rattle.brl_rules.specs.Translation.{translation, translation_from}
+use Rattle.brl_forward.specs.Trace.{steps_from, trace_of}
+use Rattle.brl_forward.specs.Walk.{IsAt}
+use Rattle.brl_forward.proofs.walk.walk.Given as goal
+
+abbrev pub invariant-loop-at : goal.invariant-loop-at
+invariant-loop-at l = record {
+  at : IsAt l.table l.text l.at;
+  cells : l.cells.items ++ translation_from l.table l.text (length l.text) l.at.start ≡ l.fn.cells.items ++ translation l.table l.text;
+  steps : IsTrue l.traces → l.steps.items ++ steps_from l.table l.text (length l.text) l.at.start ≡ l.fn.steps.items ++ trace_of l.table l.text;
+}
+
+abbrev pub decreases-loop-at : goal.decreases-loop-at
+decreases-loop-at l = length l.text - l.at.start
