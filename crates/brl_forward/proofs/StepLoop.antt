@@ -1,5 +1,5 @@
 -- The loop over the steps of a text.
-use Rattle.std.proofs.Common.{ℕ, zero, suc, ◌+◌, ◌<◌, ◌≤◌, ◌≡◌, Bool, true, false, List, [], ◌∷◌, ◌++◌, length, drop, refl, arith, cond, nat_lt, sym, ◌∙◌, ap, append_assoc, append-nil, length-drop, ltb-true}
+use Rattle.std.proofs.Common.{ℕ, zero, suc, ◌+◌, ◌<◌, ◌≤◌, ◌≡◌, Bool, true, false, List, [], ◌∷◌, ◌++◌, length, drop, refl, arith, cond, nat_lt, sym, ◌∙◌, ap, append_assoc, length-drop, ltb-true}
 use Rattle.std.proofs.lemmas.Bool.Decides.{nat_tests}
 use Rattle.brl_rules.specs.TableView.{TableView}
 use Rattle.brl_rules.specs.declared.class.Class.{Class}
@@ -66,14 +66,10 @@ step_more takes t text i j done more total x h ex ej em inv =
     let k : j ≡ i + (chosen_at t text i).taken = ej ∙ ap (λ y. i + y.length) ex in
     rw (em, k, ex) (append_assoc done (step_at t text i ∷ []) (steps_from t text (length text) (i + (chosen_at t text i).taken)) ∙ ap (λ zs. done ++ zs) (sym law) ∙ inv)
 
--- the end of the loop
-pub no_more : (t : TableView) (text : List ℕ) (i : ℕ) (done total : List Traced) → length text ≤ i → done ++ steps_from t text (length text) i ≡ total → done ≡ total
-no_more t text i done total h inv = sym (append-nil done) ∙ ap (λ zs. done ++ zs) (sym (steps_from-end t text (length text) i h)) ∙ inv
-
 -- the start of the loop
-pub none_yet : (t : TableView) (text : List ℕ) → [] ++ steps_from t text (length text) 0 ≡ trace_of t text
+pub steps_start : (t : TableView) (text : List ℕ) → steps_from t text (length text) 0 ≡ trace_of t text
 unfolding trace_of
-none_yet t text = refl
+steps_start t text = refl
 
 -- the steps from a position on
 pub trace-position : TakesSome → (t : TableView) (text : List ℕ) (i : ℕ) → i < length text →

@@ -173,7 +173,7 @@ fn set_chars(text: &str, buffer: &mut Vec<char>) -> Result<(), AllocError>
 {
     buffer.clear();
     for character in text.chars() {
-        if buffer.len() == buffer.capacity() {
+        if buffer.capacity() <= buffer.len() {
             buffer.reserve(1)?;
         }
         buffer.push_reserved(character);
