@@ -89,7 +89,12 @@ fn take_step(
     let choice = table.choice_of(info, run, at.here.classes, rest);
     append(choice.cells, cells)?;
     let start = at.start + choice.taken;
-    let here = table.context_after_infos(at.here, &infos[at.start..start]);
+    // Most steps take one character.
+    let here = if choice.taken == 1 {
+        table.context_after_info(at.here, info)
+    } else {
+        table.context_after_infos(at.here, &infos[at.start..start])
+    };
     Ok(Some(Taken {
         next: Position { here, start },
         rule: choice.number,
