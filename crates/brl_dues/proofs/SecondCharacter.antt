@@ -1,22 +1,21 @@
 -- The rules above by their second characters: how their groups grow, and that rules with another
 -- second character leave nothing.
-use Rattle.std.proofs.Common.{◌≡◌, ℕ, zero, suc, ◌+◌, ◌<◌, Bool, true, false, not, ◌&&◌, List, [], ◌∷◌, ◌++◌, Option, Some, None, length, filter, get_or, slice_set, is_some, refl, sym, ap, ap₂, ◌∙◌, cond, nat_eq, arith, append-nil, subst}
+use Rattle.std.proofs.Common.{◌≡◌, ℕ, zero, suc, ◌+◌, ◌<◌, Bool, true, false, not, ◌&&◌, List, [], ◌∷◌, ◌++◌, Option, Some, None, length, filter, get_or, slice_set, is_some, refl, sym, ap, ap₂, ◌∙◌, cond, nat_eq, nat_lt, arith, append-nil, subst}
 use Rattle.std.proofs.lemmas.Bool.{ne_eqb}
 use Rattle.std.proofs.lemmas.Bool.Decides.{nat_tests}
 use Rattle.std.proofs.lemmas.Grind.{flat_map-append}
-use Rattle.std.proofs.lemmas.List.Folds.{list_all-append}
+use Rattle.std.proofs.lemmas.List.Folds.{find_at, list_all-append}
 use Rattle.std.proofs.lemmas.List.Quantifiers.{position-Some}
-use Rattle.std.proofs.lemmas.Option.{slice_get-get_or}
+use Rattle.std.proofs.lemmas.Option.{slice_get-get_or, slice_get_past}
 use Rattle.std.specs.Prelude.{slice_get}
-use Rattle.std.specs.List.{find, flat_map, list_all, position}
+use Rattle.std.specs.List.{find, flat_map, list_all, position, position_or_len}
 use Rattle.std.specs.Option.{option_map_or}
 use Rattle.brl_rules.specs.declared.class.Class.{Class}
 use Rattle.brl_rules.specs.declared.place.Cond.{Cond}
 use Rattle.brl_rules.specs.Places.{holds}
 use Rattle.brl_rules.specs.TableView.{TableView}
 use Rattle.brl_rules.specs.Text.{classes_of, fold_of}
-use Rattle.brl_rules.proofs.Facts.{same_number}
-use Rattle.brl_rules.proofs.TreeInsert.{find-at, find-none}
+use Rattle.brl_rules.proofs.Facts.{not_below, same_number}
 use Rattle.brl_dues.specs.declared.carry.Carried.{Carried}
 use Rattle.brl_dues.specs.declared.carry.Carried.TheVariants.{Settled}
 use Rattle.brl_dues.specs.declared.rules_above.Group.{Group}
@@ -26,6 +25,24 @@ use Rattle.brl_dues.specs.Capitals.{further, is_upper}
 use Rattle.brl_dues.specs.Carry.{bars_past, carry_bar, carry_capitals, is_whole, left_of, lefts, settled_if}
 use Rattle.brl_dues.specs.Letters.{bars_of}
 use Rattle.brl_dues.specs.SecondCharacter.{has_second, rules_with, second_of, AreSame, Grow}
+
+-- ---- The first element that passes a test
+
+not_found : {X : Type 0} (p : X → Bool) (b : Bool) (i : ℕ) → cond b (Some i) None ≡ None → b ≡ false
+not_found p true i e = cc
+not_found p false i e = refl
+
+find-none : {X : Type 0} (p : X → Bool) (xs : List X) → position p xs ≡ None → find p xs ≡ None
+find-none p xs h =
+    let past = not_found p (nat_lt (position_or_len p xs) (length xs)) (position_or_len p xs) h in
+    find_at p xs ∙ slice_get_past xs (position_or_len p xs) (not_below _ _ past)
+
+at_found : {X : Type 0} (p : X → Bool) (b : Bool) (i k : ℕ) → cond b (Some i) None ≡ Some k → i ≡ k
+at_found p true i k e = cc
+at_found p false i k e = cc
+
+find-at : {X : Type 0} (p : X → Bool) (xs : List X) (i : ℕ) → position p xs ≡ Some i → find p xs ≡ slice_get xs i
+find-at p xs i h = find_at p xs ∙ ap (slice_get xs) (at_found p (nat_lt (position_or_len p xs) (length xs)) (position_or_len p xs) i h)
 
 -- ---- Groups
 
