@@ -92,7 +92,7 @@ module _ (pages : List (Vec ℕ Global)) (x place : ℕ) (old new : Vec ℕ Glob
 
 -- ---- all characters
 
--- after the first of these characters have their places, one either has its place or isn't among them
+-- after the first of these characters have their places, one has its place or isn't among them
 abbrev pub IsPlaced : List (ℕ × Info) → ℕ → ℕ → ℕ → Type 0
 IsPlaced entries count c place =
     ((v : Info) × (slice_get entries place ≡ Some (c, v)))

@@ -23,7 +23,7 @@ abbrev pub is_branch : ℕ → ℕ → Node → Bool
 is_branch node mark branch = (branch.mark == mark) && (branch.parent == node)
 
 -- the first of the node with this number and those after it in its chain to which a character
--- leads from a node; at most the given number of them are looked at
+-- leads from a node, of at most the given number of them
 abbrev pub found_in : List Node → ℕ → ℕ → ℕ → ℕ → Option ℕ
 found_in nodes most node mark zero = None
 found_in nodes zero node mark (suc k) = None
