@@ -7,7 +7,7 @@ use Rattle.std.specs.Cmp.{first_so, second_so}
 use Rattle.std.proofs.lemmas.Bool.{cases_eq, cases_order, ne_eqb}
 use Rattle.std.proofs.lemmas.Bool.Decides.{nat_tests}
 use Rattle.std.proofs.lemmas.Grind.{get_or-set_at}
-use Rattle.std.proofs.lemmas.List.{get_or-set_other, length-replicate, length-set}
+use Rattle.std.proofs.lemmas.List.{get_or-set_other, length-set}
 use Rattle.std.proofs.lemmas.Option.{slice_get_within}
 use Rattle.brl_rules.specs.declared.tree.Node.{Node}
 use Rattle.brl_rules.specs.Tree.{Tree, is_branch, found_in, first_of, chain_of, branch_of, node_at, rules_at, ends_at, is_just, with_rule, AreOrdered, IsTree}
@@ -173,7 +173,7 @@ pub record IsBare (tree : Tree) : Type 0 where
   pub is : IsTree tree
   pub ends : (at : List ℕ) → ends_at tree 0 at ≡ []
 
-module _ (root : Node) (parent : root.parent ≡ 0) (next : root.next ≡ 0) (empty : root.rules.items ≡ []) (count : ℕ) (long : count ≡ 16384) where
+module _ (root : Node) (parent : root.parent ≡ 0) (next : root.next ≡ 0) (empty : root.rules.items ≡ []) (count : ℕ) where
   abbrev alone : Tree
   alone = record { nodes = root ∷ []; chains = replicate count 0 }
 
@@ -202,7 +202,6 @@ module _ (root : Node) (parent : root.parent ≡ 0) (next : root.next ≡ 0) (em
         is = record {
           some = omega arith;
           ordered = alone-ordered;
-          chains = length-replicate count 0 ∙ long;
           within = λ chain. omega (arith, first-zero count chain);
         };
         ends = alone-ends;
@@ -240,11 +239,12 @@ chain-low node mark = mod-lt (node % 16384 * 37 + mark) (omega arith)
 -- a tree has a new branch, without rules
 pub record Grows (old tree : Tree) (node mark : ℕ) : Type 0 where
   pub is : IsTree tree
+  pub chains : length tree.chains ≡ 16384
   pub branch : branch_of tree node mark ≡ Some (length old.nodes)
   pub kept : (at : List ℕ) (there : ℕ) → node_at old 0 at ≡ Some there → node_at tree 0 at ≡ Some there
   pub ends : (at : List ℕ) → ends_at tree 0 at ≡ ends_at old 0 at
 
-module _ (tree : Tree) (is : IsTree tree) (node mark : ℕ) (new : Node) (within : node < length tree.nodes) (none : branch_of tree node mark ≡ None)
+module _ (tree : Tree) (is : IsTree tree) (long : length tree.chains ≡ 16384) (node mark : ℕ) (new : Node) (within : node < length tree.nodes) (none : branch_of tree node mark ≡ None)
     (parent : new.parent ≡ node) (named : new.mark ≡ mark) (next : new.next ≡ first_of tree node mark) (empty : new.rules.items ≡ []) where
   -- the tree with the new node
   abbrev grown : Tree
@@ -290,7 +290,7 @@ module _ (tree : Tree) (is : IsTree tree) (node mark : ℕ) (new : Node) (within
   branch-grown q d = cases (cases_eq (chain_of q d) (chain_of node mark))
     where
       in_chains : chain_of node mark < length tree.chains
-      in_chains = omega (arith, is.chains, chain-low node mark)
+      in_chains = omega (arith, long, chain-low node mark)
 
       cases : (chain_of q d ≡ chain_of node mark) ⊎ (chain_of q d ≢ chain_of node mark) → branch_of grown q d ≡ cond (is_branch q d new) (Some count) (branch_of tree q d)
       cases (inl same) = found-new q d same (first_of grown q d) (get_or-set_at tree.chains (chain_of node mark) (chain_of q d) count 0 same in_chains)
@@ -360,7 +360,7 @@ module _ (tree : Tree) (is : IsTree tree) (node mark : ℕ) (new : Node) (within
 
       cases : (chain ≡ chain_of node mark) ⊎ (chain ≢ chain_of node mark) → slice_index_or grown.chains chain 0 < length grown.nodes
       cases (inl same) =
-          let inside : chain_of node mark < length tree.chains = omega (arith, is.chains, chain-low node mark) in
+          let inside : chain_of node mark < length tree.chains = omega (arith, long, chain-low node mark) in
           omega (arith, more, get_or-set_at tree.chains (chain_of node mark) chain count 0 same inside)
       cases (inr differ) = omega (arith, more, get_or-set_other tree.chains (chain_of node mark) chain count 0 differ, is.within chain)
 
@@ -380,7 +380,6 @@ module _ (tree : Tree) (is : IsTree tree) (node mark : ℕ) (new : Node) (within
   tree-grown = record {
     some = omega (arith, length-append tree.nodes (new ∷ []));
     ordered = new-ordered;
-    chains = length-set tree.chains (chain_of node mark) count ∙ is.chains;
     within = first-within;
   }
 
@@ -389,7 +388,7 @@ module _ (tree : Tree) (is : IsTree tree) (node mark : ℕ) (new : Node) (within
   grows nodes chains nodes-are chains-are =
       let P : List Node → List ℕ → Type 0 = λ nodes chains. Grows tree (record { nodes = nodes; chains = chains }) node mark in
       subst (λ nodes. P nodes chains) (sym nodes-are) (subst (P grown.nodes) (sym chains-are)
-      (record { is = tree-grown; branch = new_branch; kept = λ at there e. path-kept at 0 there e; ends = λ at. ends-grown at 0 is.some }))
+      (record { is = tree-grown; chains = length-set tree.chains (chain_of node mark) count ∙ long; branch = new_branch; kept = λ at there e. path-kept at 0 there e; ends = λ at. ends-grown at 0 is.some }))
 
 -- ---- a new rule
 
@@ -493,6 +492,5 @@ module _ (tree : Tree) (is : IsTree tree) (node : ℕ) (old new : Node) (there :
       record {
         some = omega (arith, long, is.some);
         ordered = kept-links;
-        chains = is.chains;
         within = λ chain. omega (arith, long, is.within chain);
       }

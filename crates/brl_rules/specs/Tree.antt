@@ -9,7 +9,8 @@ use Rattle.brl_rules.specs.Text.{classes_of, fold_of, is_capital}
 use Rattle.brl_rules.specs.Limits.{IsTable}
 use Rattle.brl_rules.specs.Pages.{ArePagesOf}
 
--- the nodes by their numbers, and the number of the first node of each chain, 0 where it has none
+-- the nodes by their numbers, and the number of the first node of each chain, 0 where it has none;
+-- a tree without rules has no chains
 pub record Tree : Type 0 where
   pub nodes : List Node
   pub chains : List ℕ
@@ -59,7 +60,6 @@ AreOrdered nodes = (k : ℕ) (n : Node) → slice_get nodes k ≡ Some n → (n.
 pub record IsTree (tree : Tree) : Type 0 where
   pub some : 0 < length tree.nodes
   pub ordered : AreOrdered tree.nodes
-  pub chains : length tree.chains ≡ 16384
   pub within : (chain : ℕ) → slice_index_or tree.chains chain 0 < length tree.nodes
 
 -- the numbers of the rules at `at`, after a rule with these characters and this number is inserted

@@ -30,7 +30,7 @@ struct Node {
 #[derive(Drop)]
 pub struct RuleTree {
     nodes: Vec<Node>,
-    /// The first node of each chain. 0 where it has none.
+    /// The first node of each chain. 0 where it has none. A tree without rules has no chains.
     chains: Vec<usize>,
 }
 
@@ -53,16 +53,20 @@ impl RuleTree {
         requires { length rules.now ≤ 4096 }
         ensures { IfOk result (IsTreeOf rules.now) }
     {
-        let mut tree = RuleTree::new(alloc)?;
+        if rules.is_empty() {
+            return RuleTree::new(alloc, 0);
+        }
+        let mut tree = RuleTree::new(alloc, CHAINS)?;
         for (number, rule) in rules.iter().enumerate() {
             tree.insert(alloc, rule.chars.as_slice(), number as u32)?;
         }
         Ok(tree)
     }
 
-    /// A tree without rules.
-    fn new(alloc: Global) -> Result<RuleTree, AllocError>
-        ensures { IfOk result (λ tree. (at : List ℕ) → ends_at tree 0 at ≡ []) }
+    /// A tree without rules, with this number of chains.
+    fn new(alloc: Global, chains: usize) -> Result<RuleTree, AllocError>
+        ensures empty { IfOk result (λ tree. (at : List ℕ) → ends_at tree 0 at ≡ []) }
+        ensures chains { IfOk result (λ tree. length tree.chains ≡ chains) }
     {
         let root = Node {
             parent: 0,
@@ -72,13 +76,15 @@ impl RuleTree {
         };
         let mut nodes = Vec::new(alloc);
         nodes.push(root)?;
-        let chains = Vec::from_elem(alloc, 0, CHAINS)?;
+        let chains = Vec::from_elem(alloc, 0, chains)?;
         Ok(RuleTree { nodes, chains })
     }
 
     /// Inserts the rule with this number and these characters as the last one.
     fn insert(&mut self, alloc: Global, chars: &[char], number: u32) -> Result<(), AllocError>
-        ensures { OnOk result ((at : List ℕ) → ends_at self.new 0 at ≡ with_rule chars.now number at (ends_at self.old 0 at)) }
+        requires { length self.old.chains ≡ 16384 }
+        ensures chains { OnOk result (length self.new.chains ≡ 16384) }
+        ensures ends { OnOk result ((at : List ℕ) → ends_at self.new 0 at ≡ with_rule chars.now number at (ends_at self.old 0 at)) }
     {
         let mut node = RuleTree::ROOT;
         for character in chars {
@@ -95,6 +101,8 @@ impl RuleTree {
     fn push_branch(&mut self, alloc: Global, node: usize, mark: char) -> Result<usize, AllocError>
         requires within { node < length self.old.nodes }
         requires none { branch_of self.old node mark ≡ None }
+        requires chains { length self.old.chains ≡ 16384 }
+        ensures chains { OnOk result (length self.new.chains ≡ 16384) }
         ensures branch { IfOk result (λ branch. branch_of self.new node mark ≡ Some branch) }
         ensures kept { OnOk result ((at : List ℕ) (there : ℕ) → node_at self.old 0 at ≡ Some there → node_at self.new 0 at ≡ Some there) }
         ensures ends { OnOk result ((at : List ℕ) → ends_at self.new 0 at ≡ ends_at self.old 0 at) }
@@ -126,7 +134,7 @@ impl RuleTree {
         ensures branch { result ≡ branch_of self.now node mark }
         ensures tree { IsTree self.now }
     {
-        let mut number = self.chains[chain_of_branch(node, mark)];
+        let mut number = *self.chains.get(chain_of_branch(node, mark))?;
         while number > 0 {
             let branch = self.nodes.get(number)?;
             if branch.mark == mark && branch.parent == node {

@@ -9,8 +9,8 @@ use Rattle.brl_rules.proofs.tree.RuleTree.branch.Goals as goal
 there : (c : Joined-else-branch-mark) → slice_get c.self.inside.nodes.items c.loop-number.number ≡ Some c.in_ok-branch.branch.now
 there c =
     let look = c.in_ok-branch.ensures.lookup in
-    ap (λ nodes. slice_get nodes c.loop-number.number) (sym c.deref.ensures.value)
-    ∙ slice_get_read c.deref.result.now _ c.loop-number.number c.in_ok-branch.branch.now refl look.3.0 look.1
+    ap (λ nodes. slice_get nodes c.loop-number.number) (sym c.deref-in-loop-number.ensures.value)
+    ∙ slice_get_read c.deref-in-loop-number.result.now _ c.loop-number.number c.in_ok-branch.branch.now refl look.3.0 look.1
 
 pub loop-number-smaller : goal.loop-number-smaller
 loop-number-smaller c =

@@ -35,6 +35,7 @@ loop-character-preserved c =
           (sym w.in_Some-branch.ensures.branch) in
           record {
             path = ap (λ t. node_at t 0 (take (k + 1) chars)) w.self-is ∙ path ∙ ap (λ n. Some n) (sym w.node-is);
+            chains = ap (λ (t : Tree). length t.chains) w.self-is ∙ c.loop-character.invariant.chains;
             ends = λ at. ap (λ t. ends_at t 0 at) w.self-is ∙ c.loop-character.invariant.ends at;
           }
       | in_None-branch+in_ok-node-in_None-branch w ↦
@@ -43,6 +44,7 @@ loop-character-preserved c =
           (grown.kept (take k chars) c.loop-character.node c.loop-character.invariant.path) grown.branch in
           record {
             path = ap (λ t. node_at t 0 (take (k + 1) chars)) w.self-is ∙ path ∙ ap (λ n. Some n) (sym w.node-is);
+            chains = ap (λ (t : Tree). length t.chains) w.self-is ∙ grown.chains;
             ends = λ at. ap (λ t. ends_at t 0 at) w.self-is ∙ grown.ends at ∙ c.loop-character.invariant.ends at;
           }
     ]
@@ -66,8 +68,8 @@ invariant_of-self-2 c =
     tree-changed tree c.self.invariant c.loop-character.node c.index_mut.result.now _
     (there tree c.loop-character.self c.self.view_is c.self.invariant _ c.loop-character.node c.loop-character.invariant.path c.index_mut.result.now c.index_mut.ensures.value) refl refl refl
 
-pub returns : goal.returns
-returns c = λ at.
+pub returns-clause-ends : goal.returns-clause-ends
+returns-clause-ends c = λ at.
     let tree : Tree = record { nodes = c.self.inside.nodes.items; chains = c.self.inside.chains.items } in
     let node = c.loop-character.node in
     let path = ap (node_at c.loop-character.self 0) (sym (take_all c.loop-character.character-index c.args.chars.now c.loop-character-test.false)) ∙ c.loop-character.invariant.path in

@@ -12,10 +12,11 @@ grown : (c : In_ok-push)
 grown c =
     let chains = c.self.inside.chains.items in
     let chain = c.chain_of_branch-chain.ensures.chain in
-    let within : c.chain_of_branch-chain.result < length chains = omega (arith, c.chain_of_branch-chain.ensures.within, c.self.invariant.chains) in
+    let long : length chains ≡ 16384 = ap (λ (tree : Tree). length tree.chains) c.self.view_is ∙ c.requires.chains in
+    let within : c.chain_of_branch-chain.result < length chains = omega (arith, c.chain_of_branch-chain.ensures.within, long) in
     let count : c.len-number.result ≡ length c.self.inside.nodes.items = omega (arith, c.len-number.ensures, c.self.inside.nodes.ok) in
     subst (λ old. Grows old (record { nodes = c.push.new.self.items; chains = slice_set chains c.chain_of_branch-chain.result c.len-number.result }) c.args.node c.args.mark) c.self.view_is
-    (grows (record { nodes = c.self.inside.nodes.items; chains = chains }) c.self.invariant c.args.node c.args.mark _
+    (grows (record { nodes = c.self.inside.nodes.items; chains = chains }) c.self.invariant long c.args.node c.args.mark _
     (subst (λ (tree : Tree). c.args.node < length tree.nodes) (sym c.self.view_is) c.requires.within)
     (subst (λ tree. branch_of tree c.args.node c.args.mark ≡ None) (sym c.self.view_is) c.requires.none) refl refl
     (get_or_read chains _ _ within c.index.ensures 0 ∙ ap (λ chain. slice_index_or chains chain 0) chain) c.new.ensures.items c.push.new.self.items _ c.in_ok-push.ensures.items
