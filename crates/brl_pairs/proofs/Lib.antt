@@ -10,6 +10,7 @@ pub mod Writes
 pub mod Missing
 pub mod EdgesLaws
 pub mod CellOrder
+pub mod Comparing
 pub mod SortedLaws
 pub mod Matching
 pub mod Unmatched

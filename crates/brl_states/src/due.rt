@@ -3,6 +3,7 @@ ghost use Rattle.std.specs.Prelude.{◌≡◌, IfOk};
 ghost use Rattle.brl_states.specs.Order.{cond_cmp, cond_kind, cond_set, due_cmp};
 
 use brl_cells::Chars;
+use brl_pairs::Sequence;
 use brl_rules::Cond;
 use std::alloc::{AllocError, Global};
 use std::cmp::Ordering;
@@ -49,9 +50,7 @@ pub fn compare_dues(a: &Due, b: &Due) -> Ordering
         (Due::Need(c), Due::Need(d)) => compare_conds(*c, *d),
         (Due::Need(_), Due::Bar(_, _)) => Ordering::Less,
         (Due::Bar(_, _), Due::Need(_)) => Ordering::Greater,
-        (Due::Bar(s, c), Due::Bar(t, d)) => {
-            s.as_slice().cmp(t.as_slice()).then(compare_conds(*c, *d))
-        }
+        (Due::Bar(s, c), Due::Bar(t, d)) => s.compare(t).then(compare_conds(*c, *d)),
     }
 }
 
