@@ -34,7 +34,7 @@ echo "ok: a page with another clause, file or number is noticed"
 # The sources, with another page of definitions.
 read=docs/proof/READ.md
 mkdir "$work/docs" && cp -r tools "$work" && cp -r docs/proof "$work/docs" && ln -s "$PWD/crates" "$work/crates" || exit 2
-sed 's/nat_lt 1024/nat_lt 1025/' "$read" >"$work/$read"
+sed 's/≤ 1024/≤ 1025/' "$read" >"$work/$read"
 if cmp -s "$read" "$work/$read" || "$work/tools/definitions" --page --check >"$work/said"; then
     echo "FAILED: a page with another definition"
     exit 1

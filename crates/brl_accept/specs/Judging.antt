@@ -14,7 +14,8 @@ use Rattle.brl_failure.specs.declared.failure.Failure.{Failure}
 use Rattle.brl_failure.specs.declared.failure.Failure.TheVariants.{Fault, Memory}
 use Rattle.brl_lines.specs.Answer.{FileAnswers}
 use Rattle.brl_lines.specs.declared.fault.LoadFault.{LoadFault}
-use Rattle.brl_table.specs.Files.{IsFaultAt, IsTableOf, load_outcome as outcome_at}
+use Rattle.brl_table.specs.Faults.{IsFaultAt, load_outcome as outcome_at}
+use Rattle.brl_table.specs.Files.{IsTableOf}
 use Rattle.brl_pairs.specs.Pairs.{IsClosed}
 use Rattle.brl_pairs.specs.Sets.{sets_of}
 use Rattle.brl_rules.specs.TableView.{TableView}

@@ -27,9 +27,9 @@ use Rattle.brl_table.specs.declared.item.RuleHead.{RuleHead}
 use Rattle.brl_table.specs.declared.opcode.Opcode.{Opcode}
 use Rattle.brl_table.specs.declared.opcode.Opcode.TheVariants.{Display, Include, Indicator, Literary, Nofor, Noback, NumericList, Placed, Plain, Uplow}
 use Rattle.brl_table.specs.declared.table_fault.TableFaultKind.TheVariants.{BadCharacters, TooMany}
-use Rattle.brl_table.specs.Items.{Fault, by_opcode, cells_of, cells_of_both, character_of, defined, defined_both, definition, displayed, fault, head, included, indicated, listed, named, rule, rule_cells_of, ruled, ruled_after, ruled_as, some_characters_of, the_two}
+use Rattle.brl_table.specs.Items.{Fault, by_opcode, cells_of, cells_of_both, character_of, defined, defined_both, definition, displayed, fault, head, left_include, indicated, listed, or_fault, rule, rule_cells_of, ruled, ruled_after, ruled_as, some_characters_of, the_two}
 use Rattle.brl_table.specs.Opcodes.{character_opcodes, entry_of, opcode_of, other_opcodes, place_opcodes}
-use Rattle.brl_table.specs.Reading.{Listed, defined_characters, defined_info, file_number, definition_in, definitions, files_of, first_uplow, item_in, items_of, listed_characters, numbered, ok_of, table_of}
+use Rattle.brl_table.specs.Reading.{Listed, defined_characters, defined_info, file_number, definition_in, definitions, files_of, first_uplow, item_in, items_of, listed_characters, with_numbers, ok_of, table_of}
 use Rattle.brl_acting.specs.Capitals.{bases_in, bases_of, pair_of, seconds}
 use Rattle.brl_acting.specs.Idle.{HasFolds, kept_lines}
 use Rattle.brl_acting.specs.Sets.{is_in}
@@ -162,7 +162,7 @@ module _ (c : ℕ) where
   of_ruled_after head prefix [] item is = cc
   of_ruled_after head prefix (next ∷ operands) item is = of_ruled_as head next.text operands (opcode_of next.text) item is
 
-  of_included : (opcode : List ℕ) (operands : List TokenView) → FoldsNone c (included opcode operands)
+  of_included : (opcode : List ℕ) (operands : List TokenView) → FoldsNone c (left_include opcode operands)
   of_included opcode [] item is = cc
   of_included opcode (name ∷ comment) item is = cc
 
@@ -192,7 +192,7 @@ module _ (c : ℕ) where
   of_both file line opcode first second comment item is d found = by (characters_of first.text) (cells_of_both second.text) is
     where
       by : (spelled : Result (List ℕ) CharsFault) (cells : Result (List ℕ × List ℕ) Fault)
-          → ((named BadCharacters first.text spelled >>= the_two first.text)
+          → ((or_fault BadCharacters first.text spelled >>= the_two first.text)
           >>= (λ cs. cells >>= (λ given. Ok (DefinesBoth (definition uppercase_letter false file line cs.1 cs.0 given.0) (definition lowercase_letter false file line cs.1 cs.1 given.1))))) ≡ Ok item
           → is_in (seconds (pair_of (chars_if first.text spelled)) (nat_eq c)) d.fold ≡ true
       by (Err wrong) cells is = cc
@@ -297,8 +297,8 @@ module _ (c : ℕ) where
   -- ---- The table
 
   fold_found : (defined : List Definition) (listed : Listed) (n : ℕ) (chars : List ℕ)
-      → (option_map_or (λ (info : Info). info.fold) (lookup (nat_eq c) (numbered (defined_info defined listed) n chars)) c ≡ c)
-      ⊎ (option_map_or (λ (info : Info). info.fold) (lookup (nat_eq c) (numbered (defined_info defined listed) n chars)) c ≡ option_map_or (λ (d : Definition). d.fold) (first_uplow defined c) c)
+      → (option_map_or (λ (info : Info). info.fold) (lookup (nat_eq c) (with_numbers (defined_info defined listed) n chars)) c ≡ c)
+      ⊎ (option_map_or (λ (info : Info). info.fold) (lookup (nat_eq c) (with_numbers (defined_info defined listed) n chars)) c ≡ option_map_or (λ (d : Definition). d.fold) (first_uplow defined c) c)
   fold_found defined listed n [] = inl refl
   fold_found defined listed n (x ∷ chars) = by (nat_eq c x) refl (fold_found defined listed (n + 1) chars)
     where
@@ -306,7 +306,7 @@ module _ (c : ℕ) where
       info = defined_info defined listed n x
 
       others : Option Info
-      others = lookup (nat_eq c) (numbered (defined_info defined listed) (n + 1) chars)
+      others = lookup (nat_eq c) (with_numbers (defined_info defined listed) (n + 1) chars)
 
       by : (b : Bool) → nat_eq c x ≡ b
           → (option_map_or (λ (info : Info). info.fold) others c ≡ c) ⊎ (option_map_or (λ (info : Info). info.fold) others c ≡ option_map_or (λ (d : Definition). d.fold) (first_uplow defined c) c)

@@ -12,7 +12,7 @@ use Rattle.brl_lines.specs.declared.operand.CharsFault.{CharsFault}
 use Rattle.brl_without.specs.Alphabet.{AlphabetView, Without, Only}
 use Rattle.brl_without.specs.Spans.{spelled_spans}
 use Rattle.brl_without.specs.declared.span.Span.{Span}
-use Rattle.brl_table.specs.Files.{IsFaultAt}
+use Rattle.brl_table.specs.Faults.{IsFaultAt}
 use Rattle.brl_table.specs.declared.no_table.NoTable.TheVariants as no_table
 use Rattle.brl_answers.specs.declared.answer.Answer.{Answer}
 use Rattle.brl_answers.specs.declared.new_files.NewFiles.TheVariants.{Nothing}

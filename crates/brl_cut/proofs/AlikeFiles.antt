@@ -12,7 +12,7 @@ use Rattle.brl_lines.specs.Rows.{without_mark}
 use Rattle.brl_lines.specs.Tokens.{LineView, lines_in}
 use Rattle.brl_lines.specs.declared.fault.LoadFaultKind.TheVariants as kinds
 use Rattle.brl_lines.proofs.MemoryLemmas.{answer_of-readable, told_of_all}
-use Rattle.brl_table.specs.Reading.{PassesAll, table_of}
+use Rattle.brl_table.specs.Reading.{AreGood, table_of}
 use Rattle.brl_rules.specs.TableView.{TableView}
 use Rattle.brl_cut.specs.Alike.{keep_files, keeps_file, keeps_lines}
 use Rattle.brl_cut.specs.Cuts.{IsReadAs, only}
@@ -21,7 +21,7 @@ use Rattle.brl_cut.specs.Settling.{bytes_at, lines_among}
 use Rattle.brl_cut.proofs.AlikeLoads.{leads-lines}
 use Rattle.brl_cut.proofs.AlikeTexts.{keeps-good, keeps-lines}
 use Rattle.brl_cut.proofs.BareLines.{bare}
-use Rattle.brl_cut.proofs.BareTables.{passes-too, same-table}
+use Rattle.brl_cut.proofs.BareTables.{good-too, same-table}
 
 -- bytes are as good as others
 abbrev AreAsGood : List ℕ → List ℕ → Type 0
@@ -123,7 +123,7 @@ all-given files (file ∷ some) = (same-self (answer_of (bytes_at files file.0))
 
 -- files that define a table have its lines
 pub lines-read : (files : Texts) (root : List ℕ) (t : TableView) → IsReadAs files root t
-    → (lines : List LineView) × (lines_among [] files root ≡ Ok lines) × PassesAll lines × (t ≡ table_of lines)
+    → (lines : List LineView) × (lines_among [] files root ≡ Ok lines) × AreGood lines × (t ≡ table_of lines)
 lines-read files root t is =
     (is.0, told_of_all [] (λ path. answer_of (bytes_at files path)) (λ path. answer_of-readable (bytes_at files path)) root (Ok is.0) is.1 tt, is.2, is.3)
 
@@ -132,11 +132,11 @@ loads-read files root t is = ap is_ok (lines-read files root t is).1
 
 -- and no others
 pub reads-read : (files : Texts) (root : List ℕ) (t : TableView) → IsReadAs files root t
-    → (lines : List LineView) → lines_among [] files root ≡ Ok lines → PassesAll lines × (t ≡ table_of lines)
+    → (lines : List LineView) → lines_among [] files root ≡ Ok lines → AreGood lines × (t ≡ table_of lines)
 reads-read files root t is lines there =
     let read = lines-read files root t is in
     let same = same_lines (sym read.1 ∙ there) in
-    (subst PassesAll same read.2, read.3 ∙ ap table_of same)
+    (subst AreGood same read.2, read.3 ∙ ap table_of same)
   where
     same_lines : {xs ys : List LineView} → ◌≡◌ {A = Result (List LineView) Refusal} (Ok xs) (Ok ys) → xs ≡ ys
     same_lines e = cc
@@ -176,7 +176,7 @@ module _ (files others : Texts) (keep : keep_files files others ≡ true) where
               (still.0, by_new still.0 other.0 other.1 still.1, still.2)
 
   pub read-still : (root : List ℕ) (t : TableView) → is_ok (lines_among [] files root) ≡ true
-      → ((lines : List LineView) → lines_among [] files root ≡ Ok lines → PassesAll lines × (t ≡ table_of lines)) → IsReadAs others root t
+      → ((lines : List LineView) → lines_among [] files root ≡ Ok lines → AreGood lines × (t ≡ table_of lines)) → IsReadAs others root t
   read-still root t loads reads = by_lines (lines_among [] files root) refl loads
     where
       by_lines : (found : Result (List LineView) Refusal) → lines_among [] files root ≡ found → is_ok found ≡ true → IsReadAs others root t
@@ -184,4 +184,4 @@ module _ (files others : Texts) (keep : keep_files files others ≡ true) where
       by_lines (Ok lines) is loaded =
           let read = reads lines is in
           let new = leads-lines before (answer_at answers) texts root lines is in
-          (new.0, (answers, all-given others others, new.1), passes-too lines new.0 new.2 read.0, read.1 ∙ sym (same-table lines new.0 new.2))
+          (new.0, (answers, all-given others others, new.1), good-too lines new.0 new.2 read.0, read.1 ∙ sym (same-table lines new.0 new.2))

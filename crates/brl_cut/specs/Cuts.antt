@@ -10,7 +10,8 @@ use Rattle.brl_lines.specs.declared.fault.LoadFault.{LoadFault}
 use Rattle.brl_lines.specs.declared.gathering.Gathered.{Gathered}
 use Rattle.brl_lines.specs.declared.way.IncludeReason.{IncludeReason}
 use Rattle.brl_lines.specs.declared.way.IncludeReason.TheVariants.{Dictionary, Missing, Repeated}
-use Rattle.brl_table.specs.Files.{IsFaultAt, IsTableOf}
+use Rattle.brl_table.specs.Faults.{IsFaultAt}
+use Rattle.brl_table.specs.Files.{IsTableOf}
 use Rattle.brl_table.specs.Survey.{FaultyLineView, faulty_line_view}
 use Rattle.brl_table.specs.Items.{fault}
 use Rattle.brl_table.specs.declared.no_table.NoTable.{NoTable}

@@ -1,7 +1,7 @@
 //! A table that was cut.
 ghost use Rattle.std.specs.Prelude.{◌≡◌, [], map, string_bytes, true};
 ghost use Rattle.std.specs.Result.{ForOk, is_ok};
-ghost use Rattle.brl_table.specs.Reading.{PassesAll, table_of};
+ghost use Rattle.brl_table.specs.Reading.{AreGood, table_of};
 ghost use Rattle.brl_cut.specs.Files.{file_view};
 ghost use Rattle.brl_cut.specs.Settling.{lines_among};
 
@@ -20,5 +20,5 @@ pub struct CutTable {
     pub table: Table,
     pub written: String,
     ghost loads: { is_ok (lines_among [] (map file_view cut.files.items) (string_bytes written)) ≡ true },
-    ghost reads: { ForOk (lines_among [] (map file_view cut.files.items) (string_bytes written)) (λ lines. PassesAll lines × (table ≡ table_of lines)) },
+    ghost reads: { ForOk (lines_among [] (map file_view cut.files.items) (string_bytes written)) (λ lines. AreGood lines × (table ≡ table_of lines)) },
 }

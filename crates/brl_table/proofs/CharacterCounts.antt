@@ -14,7 +14,7 @@ use Rattle.brl_table.proofs.DefinitionSteps.{characters-more, count-entries, kno
 use Rattle.brl_table.proofs.NumberedEntries.{there-some}
 use Rattle.brl_rules.specs.Text.{is_defined}
 
-length-insert_new : (xs : List ℕ) (c : ℕ) → length (insert_new nat_eq xs c) ≡ length xs + cond (list_any (nat_eq c) xs) 0 1
+pub length-insert_new : (xs : List ℕ) (c : ℕ) → length (insert_new nat_eq xs c) ≡ length xs + cond (list_any (nat_eq c) xs) 0 1
 length-insert_new [] c = refl
 length-insert_new (x ∷ xs) c = cases (nat_eq c x) (length-insert_new xs c)
   where

@@ -7,7 +7,7 @@ use Rattle.brl_table.specs.declared.item.Definition.{Definition}
 use Rattle.brl_rules.specs.declared.rule.Info.{Info}
 use Rattle.brl_rules.specs.declared.rule.Notice.{Notice}
 use Rattle.brl_rules.specs.Limits.{AreNumbered, IsAmong, IsEntry}
-use Rattle.brl_table.specs.Reading.{Listed, defined_characters, defined_entries, first_literary, first_uplow, defining_line, defined_info, is_repeated, notice_of, notices_after, numbered}
+use Rattle.brl_table.specs.Reading.{Listed, defined_characters, defined_entries, first_literary, first_uplow, defining_line, defined_info, is_repeated, notice_of, notices_after, with_numbers}
 use Rattle.brl_table.specs.ItemLimits.{IsWithinLimits}
 use Rattle.brl_table.proofs.NumberedEntries.{there-some}
 use Rattle.brl_table.proofs.DefinitionSteps.{known-found, known-listed, plain-known}
@@ -16,7 +16,7 @@ use Rattle.brl_table.specs.Building.{is_known}
 -- ---- Numbers
 
 -- an entry's number is its place, counted from the first number on
-numbered-at : (defined : List Definition) (listed : Listed) (cs : List ℕ) (n place : ℕ) (entry : ℕ × Info) → slice_get (numbered (defined_info defined listed) n cs) place ≡ Some entry → entry.1.number ≡ n + place
+numbered-at : (defined : List Definition) (listed : Listed) (cs : List ℕ) (n place : ℕ) (entry : ℕ × Info) → slice_get (with_numbers (defined_info defined listed) n cs) place ≡ Some entry → entry.1.number ≡ n + place
 numbered-at defined listed [] n place entry h = cc
 numbered-at defined listed (c ∷ cs) n zero entry h =
     let e : (c, defined_info defined listed n c) ≡ entry = cc in
@@ -40,11 +40,11 @@ found-one {X} P p (y ∷ ys) x all h = cases (p y) h (found-one P p ys x (All-ta
 
 -- what holds of the info of each character, whatever its number
 All-numbered : (defined : List Definition) (listed : Listed) (P : Info → Type 0) (cs : List ℕ) → All (λ c. (n : ℕ) → P (defined_info defined listed n c)) cs → (n : ℕ)
-    → All (λ entry. P entry.1) (numbered (defined_info defined listed) n cs)
+    → All (λ entry. P entry.1) (with_numbers (defined_info defined listed) n cs)
 All-numbered defined listed P [] h n = All-nil (λ entry. P entry.1)
 All-numbered defined listed P (c ∷ cs) h n =
     let R : ℕ → Type 0 = λ c. (n : ℕ) → P (defined_info defined listed n c) in
-    All-cons (λ entry. P entry.1) (c, defined_info defined listed n c) (numbered (defined_info defined listed) (n + 1) cs) (All-head R c cs h n)
+    All-cons (λ entry. P entry.1) (c, defined_info defined listed n c) (with_numbers (defined_info defined listed) (n + 1) cs) (All-head R c cs h n)
     (All-numbered defined listed P cs (All-tail R c cs h) (n + 1))
 
 module _ (files : ℕ) (defined : List Definition) (listed : Listed) (limits : All (IsWithinLimits files) defined) (folds : All (λ d. is_known defined d.fold ≡ true) defined) where

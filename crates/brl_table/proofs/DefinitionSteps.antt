@@ -15,7 +15,7 @@ use Rattle.brl_rules.specs.declared.class.Class.{Class}
 use Rattle.brl_table.specs.declared.characters.Characters.{Characters}
 use Rattle.brl_table.specs.declared.item.Definition.{Definition}
 use Rattle.brl_rules.specs.declared.rule.Info.{Info}
-use Rattle.brl_table.specs.Reading.{Listed, insert_new, dedup, about, defined_characters, defined_classes, defined_entries, first_literary, first_plain, first_uplow, defined_info, is_repeated, notice_of, notices_after, numbered}
+use Rattle.brl_table.specs.Reading.{Listed, insert_new, dedup, about, defined_characters, defined_classes, defined_entries, first_literary, first_plain, first_uplow, defined_info, is_repeated, notice_of, notices_after, with_numbers}
 use Rattle.brl_table.specs.Building.{info_first, is_known, merged, none_listed, CharactersRepresent}
 use Rattle.brl_table.proofs.Inserting.{any-fold, put-known}
 use Rattle.brl_table.proofs.NumberedEntries.{absent, found-numbered, is_there, length-numbered, numbered-new, numbered-old, single-fold, there}
@@ -206,7 +206,7 @@ module _ (defined : List Definition) (d : Definition) where
       let step = numbered-old (defined_info defined none_listed) (defined_info (defined ++ d ∷ []) none_listed) c (info-other none_listed) (merged d) (info-again known none_listed) 0 (defined_characters defined) old single look in
       let stay : defined_characters defined ≡ defined_characters (defined ++ d ∷ []) = sym (characters-more ∙ put-known nat_eq c (defined_characters defined) (known-listed defined c ∙ known)) in
       set ∙ ap (λ i. set_value (nat_eq c) characters i) is ∙ ap (λ es. set_value (nat_eq c) es (merged d old)) e
-      ∙ step ∙ ap (numbered (defined_info (defined ++ d ∷ []) none_listed) 0) stay
+      ∙ step ∙ ap (with_numbers (defined_info (defined ++ d ∷ []) none_listed) 0) stay
 
   -- a new character
   pub entries-new : (number : ℕ) (characters after : List (ℕ × Info)) → characters ≡ defined_entries defined none_listed → lookup (nat_eq d.character) characters ≡ None
@@ -221,7 +221,7 @@ module _ (defined : List Definition) (d : Definition) where
       inserted ∙ ap (insert_entry nat_eq characters c) (sym (info-new new number))
       ∙ ap (λ n. insert_entry nat_eq characters c (defined_info (defined ++ d ∷ []) none_listed n c)) place
       ∙ ap (λ es. insert_entry nat_eq es c (defined_info (defined ++ d ∷ []) none_listed (0 + length (defined_characters defined)) c)) e
-      ∙ step ∙ ap (numbered (defined_info (defined ++ d ∷ []) none_listed) 0) (sym characters-more)
+      ∙ step ∙ ap (with_numbers (defined_info (defined ++ d ∷ []) none_listed) 0) (sym characters-more)
 
   -- ---- the plain lines
 
@@ -260,13 +260,13 @@ notices-more earlier (e ∷ defined) d =
 -- ---- lines of the same kind
 
 literary-numbered : (defined : List Definition) (listed : Listed) (c n : ℕ) (xs : List ℕ)
-    → option_map_or (λ i. i.literary) (lookup (nat_eq c) (numbered (defined_info defined listed) n xs)) false ≡ list_any (nat_eq c) xs && is_some (first_literary defined c)
+    → option_map_or (λ i. i.literary) (lookup (nat_eq c) (with_numbers (defined_info defined listed) n xs)) false ≡ list_any (nat_eq c) xs && is_some (first_literary defined c)
 literary-numbered defined listed c n [] = refl
 literary-numbered defined listed c n (x ∷ xs) = cases (nat_eq c x) refl (literary-numbered defined listed c (n + 1) xs)
   where
     cases : (b : Bool) → nat_eq c x ≡ b
-        → option_map_or (λ i. i.literary) (lookup (nat_eq c) (numbered (defined_info defined listed) (n + 1) xs)) false ≡ list_any (nat_eq c) xs && is_some (first_literary defined c)
-        → option_map_or (λ i. i.literary) (cond b (Some (defined_info defined listed n x)) (lookup (nat_eq c) (numbered (defined_info defined listed) (n + 1) xs))) false
+        → option_map_or (λ i. i.literary) (lookup (nat_eq c) (with_numbers (defined_info defined listed) (n + 1) xs)) false ≡ list_any (nat_eq c) xs && is_some (first_literary defined c)
+        → option_map_or (λ i. i.literary) (cond b (Some (defined_info defined listed n x)) (lookup (nat_eq c) (with_numbers (defined_info defined listed) (n + 1) xs))) false
         ≡ (b || list_any (nat_eq c) xs) && is_some (first_literary defined c)
     cases true e more = ap (λ y. is_some (first_literary defined y)) (sym (eqb-true c x e))
     cases false e more = more

@@ -18,7 +18,8 @@ use Rattle.brl_failure.specs.declared.failure.Failure.TheVariants as failures
 use Rattle.brl_table.specs.Items.{Fault, item_of}
 use Rattle.std.proofs.lemmas.Bool.{cases_order}
 use Rattle.std.proofs.lemmas.List.Elements.{All-push}
-use Rattle.brl_table.specs.Reading.{IsAt, IsFaultOf, IsFirstFault, item_in, items_of, ok_of, fault_after, first_pass_fault, file_number, files_of, repeats_indicator, file_place, insert_new, PassesBefore}
+use Rattle.brl_table.specs.Faults.{IsAt, IsFirstFaultOf, IsFirstFault, fault_after, first_pass_fault, repeats_indicator, PassesBefore}
+use Rattle.brl_table.specs.Reading.{item_in, items_of, ok_of, file_number, files_of, file_place, insert_new}
 use Rattle.brl_table.specs.declared.table_fault.TableFault.{TableFault}
 use Rattle.brl_table.specs.ItemLimits.{IsWithinLimits, IsItemWithinLimits}
 use Rattle.brl_table.specs.Building.{AreWithinLimits, Represents}
@@ -211,7 +212,7 @@ module _ (lines : List Line) (names : List (String Global)) (named : map string_
 
 -- the first fault of the first pass, with the file and number of its line
 pub refusal : (lines : List LineView) (place : ℕ) (view : LineView) (failure : Failure Fault) (reported : Failure TableFault)
-    → IfFault (IsFirstFault lines place view) failure → IsAt view failure reported → IfFault (IsFaultOf lines) reported
+    → IfFault (IsFirstFault lines place view) failure → IsAt view failure reported → IfFault (IsFirstFaultOf lines) reported
 refusal lines place view failure failures.Memory first at = tt
 refusal lines place view failures.Memory (failures.Fault found) first at = absurd at
 refusal lines place view (failures.Fault wrong) (failures.Fault found) first at =

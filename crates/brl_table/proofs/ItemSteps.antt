@@ -14,7 +14,8 @@ use Rattle.brl_failure.specs.Failure.{Gives}
 use Rattle.brl_failure.specs.declared.failure.Failure.{Failure}
 use Rattle.brl_failure.specs.declared.failure.Failure.TheVariants as failures
 use Rattle.brl_table.specs.Items.{Fault, fault}
-use Rattle.brl_table.specs.Reading.{are_too_many, defined_characters, definition_in, definitions, fault_after, indicated_in, repeats_indicator, opcode_in, indicator_cells, used_in, used_rules}
+use Rattle.brl_table.specs.Faults.{are_too_many, fault_after, repeats_indicator, opcode_in}
+use Rattle.brl_table.specs.Reading.{defined_characters, definition_in, definitions, indicated_in, cells_indicated, used_in, used_rules}
 use Rattle.brl_table.specs.Building.{Adds, none_listed, SignsRepresent, Represents, CharactersRepresent}
 use Rattle.brl_table.proofs.DefinitionSteps.{count-entries}
 use Rattle.std.proofs.lemmas.Bool.{or_parts}
@@ -44,15 +45,15 @@ module _ (items : List Item) where
     pub too_many-rules : count ≤ 1024 → nat_lt 4096 used ≡ are_too_many (items ++ item ∷ [])
     too_many-rules few = sym (ap (λ b. b || nat_lt 4096 used) (not_above 1024 count few)) ∙ by-numbers
 
-  sign-more : (item : Item) (sign : Sign) → indicator_cells (items ++ item ∷ []) sign ≡ indicator_cells items sign ++ indicated_in sign item
-  sign-more item sign = flat_map-append (indicated_in sign) items (item ∷ []) ∙ ap (λ cells. indicator_cells items sign ++ cells) (append-nil (indicated_in sign item))
+  sign-more : (item : Item) (sign : Sign) → cells_indicated (items ++ item ∷ []) sign ≡ cells_indicated items sign ++ indicated_in sign item
+  sign-more item sign = flat_map-append (indicated_in sign) items (item ∷ []) ∙ ap (λ cells. cells_indicated items sign ++ cells) (append-nil (indicated_in sign item))
 
   pub used-more : (item : Item) → used_rules (items ++ item ∷ []) ≡ used_rules items ++ used_in item
   used-more item = flat_map-append used_in items (item ∷ []) ∙ ap (λ rs. used_rules items ++ rs) (append-nil (used_in item))
 
   module _ (characters : Characters) (signs : List (List ℕ)) (used : ℕ) (represents : Represents items characters signs used) where
     -- an indicator that has no cells yet
-    pub represents-indicates : GivesOwn → AreSame → (sign : Sign) (cells : List ℕ) (later : List (List ℕ)) → indicator_cells items sign ≡ [] → later ≡ with_cells signs sign cells
+    pub represents-indicates : GivesOwn → AreSame → (sign : Sign) (cells : List ℕ) (later : List (List ℕ)) → cells_indicated items sign ≡ [] → later ≡ with_cells signs sign cells
         → Represents (items ++ Indicates sign cells ∷ []) characters later used
     represents-indicates own same sign cells later none set = record {
       defined = subst (λ ds. CharactersRepresent ds characters) (sym (definitions-more (Indicates sign cells) ∙ append-nil (definitions items))) represents.defined;
@@ -60,14 +61,14 @@ module _ (items : List Item) where
       counted = represents.counted ∙ ap length (sym (used-more (Indicates sign cells) ∙ append-nil (used_rules items)));
     }
       where
-        kept : (other : Sign) → cells_at signs other ≡ indicator_cells items other ++ []
-        kept other = ap (λ s. cells_at s other) represents.indicated ∙ own (indicator_cells items) other ∙ sym (append-nil (indicator_cells items other))
+        kept : (other : Sign) → cells_at signs other ≡ cells_indicated items other ++ []
+        kept other = ap (λ s. cells_at s other) represents.indicated ∙ own (cells_indicated items) other ∙ sym (append-nil (cells_indicated items other))
 
-        by_test : (other : Sign) (b : Bool) → (b ≡ true → other ≡ sign) → cond b cells (cells_at signs other) ≡ indicator_cells items other ++ cond b cells []
-        by_test other true is = ap (λ front. front ++ cells) (sym (ap (indicator_cells items) (is refl) ∙ none))
+        by_test : (other : Sign) (b : Bool) → (b ≡ true → other ≡ sign) → cond b cells (cells_at signs other) ≡ cells_indicated items other ++ cond b cells []
+        by_test other true is = ap (λ front. front ++ cells) (sym (ap (cells_indicated items) (is refl) ∙ none))
         by_test other false is = kept other
 
-        each : (other : Sign) → cond (is_same_sign other sign) cells (cells_at signs other) ≡ indicator_cells (items ++ Indicates sign cells ∷ []) other
+        each : (other : Sign) → cond (is_same_sign other sign) cells (cells_at signs other) ≡ cells_indicated (items ++ Indicates sign cells ∷ []) other
         each other = by_test other (is_same_sign other sign) (same other sign) ∙ sym (sign-more (Indicates sign cells) other)
 
 -- ---- indicators
@@ -83,33 +84,33 @@ some_cells n = grind (arith, nat_tests)
 pub twice-is : GivesOwn → (items : List Item) (signs : List (List ℕ)) (sign : Sign) (given cells : List ℕ) (item : Item) (b : Bool) → SignsRepresent items signs → cells ≡ cells_at signs sign
     → b ≡ (length cells == 0) → item ≡ Indicates sign given → not b ≡ repeats_indicator items item
 twice-is own items signs sign given cells item b represents lent empty is =
-    ap not empty ∙ some_cells (length cells) ∙ ap (λ xs. nat_lt 0 (length xs)) (lent ∙ ap (λ s. cells_at s sign) represents ∙ own (indicator_cells items) sign) ∙ ap (repeats_indicator items) (sym is)
+    ap not empty ∙ some_cells (length cells) ∙ ap (λ xs. nat_lt 0 (length xs)) (lent ∙ ap (λ s. cells_at s sign) represents ∙ own (cells_indicated items) sign) ∙ ap (repeats_indicator items) (sym is)
 
 module _ (items : List Item) where
-  pub no_cells-yet : (sign : Sign) (cells : List ℕ) → repeats_indicator items (Indicates sign cells) ≡ false → indicator_cells items sign ≡ []
-  no_cells-yet sign cells h = empty_of (indicator_cells items sign) h
+  pub no_cells-yet : (sign : Sign) (cells : List ℕ) → repeats_indicator items (Indicates sign cells) ≡ false → cells_indicated items sign ≡ []
+  no_cells-yet sign cells h = empty_of (cells_indicated items sign) h
 
   -- no indicator has too many cells after the item
-  few-signs : AreSame → (files : ℕ) (item : Item) → repeats_indicator items item ≡ false → IsItemWithinLimits files item → ((sign : Sign) → length (indicator_cells items sign) ≤ 16)
-      → (sign : Sign) → length (indicator_cells items sign ++ indicated_in sign item) ≤ 16
-  few-signs same files (Defines d) once limits few sign = rw (append-nil (indicator_cells items sign)) (few sign)
-  few-signs same files (DefinesBoth upper lower) once limits few sign = rw (append-nil (indicator_cells items sign)) (few sign)
-  few-signs same files (Rules r) once limits few sign = rw (append-nil (indicator_cells items sign)) (few sign)
-  few-signs same files (Lists l) once limits few sign = rw (append-nil (indicator_cells items sign)) (few sign)
-  few-signs same files Nothing once limits few sign = rw (append-nil (indicator_cells items sign)) (few sign)
+  few-signs : AreSame → (files : ℕ) (item : Item) → repeats_indicator items item ≡ false → IsItemWithinLimits files item → ((sign : Sign) → length (cells_indicated items sign) ≤ 16)
+      → (sign : Sign) → length (cells_indicated items sign ++ indicated_in sign item) ≤ 16
+  few-signs same files (Defines d) once limits few sign = rw (append-nil (cells_indicated items sign)) (few sign)
+  few-signs same files (DefinesBoth upper lower) once limits few sign = rw (append-nil (cells_indicated items sign)) (few sign)
+  few-signs same files (Rules r) once limits few sign = rw (append-nil (cells_indicated items sign)) (few sign)
+  few-signs same files (Lists l) once limits few sign = rw (append-nil (cells_indicated items sign)) (few sign)
+  few-signs same files Nothing once limits few sign = rw (append-nil (cells_indicated items sign)) (few sign)
   few-signs same files (Indicates sign cells) once limits few other = by_test (is_same_sign other sign) (same other sign)
     where
-      by_test : (b : Bool) → (b ≡ true → other ≡ sign) → length (indicator_cells items other ++ cond b cells []) ≤ 16
-      by_test true is = rw (ap (indicator_cells items) (is refl) ∙ no_cells-yet sign cells once) limits.few_cells
-      by_test false is = rw (append-nil (indicator_cells items other)) (few other)
+      by_test : (b : Bool) → (b ≡ true → other ≡ sign) → length (cells_indicated items other ++ cond b cells []) ≤ 16
+      by_test true is = rw (ap (cells_indicated items) (is refl) ∙ no_cells-yet sign cells once) limits.few_cells
+      by_test false is = rw (append-nil (cells_indicated items other)) (few other)
 
 -- the same of the lists of cells before and after the item
 pub signs-within : GivesOwn → AreSame → (items : List Item) (files : ℕ) (item : Item) (old new : List (List ℕ)) → repeats_indicator items item ≡ false → IsItemWithinLimits files item → SignsRepresent items old → SignsRepresent (items ++ item ∷ []) new
     → ((sign : Sign) → length (cells_at old sign) ≤ 16) → (sign : Sign) → length (cells_at new sign) ≤ 16
 signs-within own same items files item old new once limits before after few sign =
     let P : List ℕ → Type 0 = λ cells. length cells ≤ 16 in
-    subst P (sym (ap (λ s. cells_at s sign) after ∙ own (indicator_cells (items ++ item ∷ [])) sign ∙ sign-more items item sign))
-    (few-signs items same files item once limits (λ other. subst P (ap (λ s. cells_at s other) before ∙ own (indicator_cells items) other) (few other)) sign)
+    subst P (sym (ap (λ s. cells_at s sign) after ∙ own (cells_indicated (items ++ item ∷ [])) sign ∙ sign-more items item sign))
+    (few-signs items same files item once limits (λ other. subst P (ap (λ s. cells_at s other) before ∙ own (cells_indicated items) other) (few other)) sign)
 
 module _ (items : List Item) (line : LineView) (item : Item) where
   -- a line whose item makes the items too many

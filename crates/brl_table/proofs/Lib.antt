@@ -17,3 +17,5 @@ pub mod SurveyLaws
 pub mod SurveySteps
 pub mod UnresolvedSteps
 pub mod SurveyWhole
+pub mod IndicatorCells
+pub mod GoodLines

@@ -5,7 +5,7 @@ use Rattle.std.specs.Map.{lookup, set_value}
 use Rattle.std.proofs.lemmas.Bool.{or_parts}
 use Rattle.indexmap.specs.IndexMap.{insert_entry}
 use Rattle.brl_rules.specs.declared.rule.Info.{Info}
-use Rattle.brl_table.specs.Reading.{insert_new, numbered}
+use Rattle.brl_table.specs.Reading.{insert_new, with_numbers}
 use Rattle.brl_rules.proofs.Facts.{nat_eq-sym}
 
 -- ---- no character twice
@@ -38,7 +38,7 @@ single-fold (c ∷ cs) xs h = single-fold cs (insert_new nat_eq xs c) (single-pu
 -- ---- entries
 
 module _ (f g : ℕ → ℕ → Info) (c : ℕ) (same : (n x : ℕ) → nat_eq x c ≡ false → g n x ≡ f n x) where
-  pub numbered-same : (n : ℕ) (xs : List ℕ) → list_any (λ y. nat_eq y c) xs ≡ false → numbered f n xs ≡ numbered g n xs
+  pub numbered-same : (n : ℕ) (xs : List ℕ) → list_any (λ y. nat_eq y c) xs ≡ false → with_numbers f n xs ≡ with_numbers g n xs
   numbered-same n [] h = refl
   numbered-same n (x ∷ xs) h =
       let p = or_parts (nat_eq x c) (list_any (λ y. nat_eq y c) xs) h in
@@ -48,19 +48,19 @@ module _ (f g : ℕ → ℕ → Info) (c : ℕ) (same : (n x : ℕ) → nat_eq x
 
   -- a character that has an entry: its info changes
   module _ (update : Info → Info) (at : (n : ℕ) → g n c ≡ update (f n c)) where
-    pub numbered-old : (n : ℕ) (xs : List ℕ) (old : Info) → IsSingle xs → lookup (nat_eq c) (numbered f n xs) ≡ Some old
-        → set_value (nat_eq c) (numbered f n xs) (update old) ≡ numbered g n xs
+    pub numbered-old : (n : ℕ) (xs : List ℕ) (old : Info) → IsSingle xs → lookup (nat_eq c) (with_numbers f n xs) ≡ Some old
+        → set_value (nat_eq c) (with_numbers f n xs) (update old) ≡ with_numbers g n xs
     numbered-old n [] old h k = cc
     numbered-old n (x ∷ xs) old h k = cases (nat_eq c x) refl k (numbered-old (n + 1) xs old h.1)
       where
-        cases : (b : Bool) → nat_eq c x ≡ b → cond b (Some (f n x)) (lookup (nat_eq c) (numbered f (n + 1) xs)) ≡ Some old
-            → (lookup (nat_eq c) (numbered f (n + 1) xs) ≡ Some old → set_value (nat_eq c) (numbered f (n + 1) xs) (update old) ≡ numbered g (n + 1) xs)
-            → cond b ((x, update old) ∷ numbered f (n + 1) xs) ((x, f n x) ∷ set_value (nat_eq c) (numbered f (n + 1) xs) (update old))
-            ≡ (x, g n x) ∷ numbered g (n + 1) xs
+        cases : (b : Bool) → nat_eq c x ≡ b → cond b (Some (f n x)) (lookup (nat_eq c) (with_numbers f (n + 1) xs)) ≡ Some old
+            → (lookup (nat_eq c) (with_numbers f (n + 1) xs) ≡ Some old → set_value (nat_eq c) (with_numbers f (n + 1) xs) (update old) ≡ with_numbers g (n + 1) xs)
+            → cond b ((x, update old) ∷ with_numbers f (n + 1) xs) ((x, f n x) ∷ set_value (nat_eq c) (with_numbers f (n + 1) xs) (update old))
+            ≡ (x, g n x) ∷ with_numbers g (n + 1) xs
         cases true e j more =
             let q : c ≡ x = eqb-true c x e in
             let o : f n x ≡ old = cc (j) in
-            let m : numbered f (n + 1) xs ≡ numbered g (n + 1) xs = numbered-same (n + 1) xs (rw q h.0) in
+            let m : with_numbers f (n + 1) xs ≡ with_numbers g (n + 1) xs = numbered-same (n + 1) xs (rw q h.0) in
             let a : g n x ≡ update old = ap (g n) (sym q) ∙ at n ∙ ap (λ y. update (f n y)) q ∙ ap update o in
             cc (a, m)
         cases false e j more =
@@ -69,23 +69,23 @@ module _ (f g : ℕ → ℕ → Info) (c : ℕ) (same : (n x : ℕ) → nat_eq x
             cc (d, m)
 
   -- a character without an entry is added last
-  pub numbered-new : (n : ℕ) (xs : List ℕ) → lookup (nat_eq c) (numbered f n xs) ≡ None
-      → insert_entry nat_eq (numbered f n xs) c (g (n + length xs) c) ≡ numbered g n (insert_new nat_eq xs c)
+  pub numbered-new : (n : ℕ) (xs : List ℕ) → lookup (nat_eq c) (with_numbers f n xs) ≡ None
+      → insert_entry nat_eq (with_numbers f n xs) c (g (n + length xs) c) ≡ with_numbers g n (insert_new nat_eq xs c)
   numbered-new n [] k = let e : n + 0 ≡ n = omega arith in ap (λ m. (c, g m c) ∷ []) e
   numbered-new n (x ∷ xs) k = cases (nat_eq c x) refl k (numbered-new (n + 1) xs)
     where
-      cases : (b : Bool) → nat_eq c x ≡ b → cond b (Some (f n x)) (lookup (nat_eq c) (numbered f (n + 1) xs)) ≡ None
-          → (lookup (nat_eq c) (numbered f (n + 1) xs) ≡ None → insert_entry nat_eq (numbered f (n + 1) xs) c (g (n + 1 + length xs) c) ≡ numbered g (n + 1) (insert_new nat_eq xs c))
-          → cond b ((x, g (n + suc (length xs)) c) ∷ numbered f (n + 1) xs) ((x, f n x) ∷ insert_entry nat_eq (numbered f (n + 1) xs) c (g (n + suc (length xs)) c))
-          ≡ numbered g n (cond b (x ∷ xs) (x ∷ insert_new nat_eq xs c))
+      cases : (b : Bool) → nat_eq c x ≡ b → cond b (Some (f n x)) (lookup (nat_eq c) (with_numbers f (n + 1) xs)) ≡ None
+          → (lookup (nat_eq c) (with_numbers f (n + 1) xs) ≡ None → insert_entry nat_eq (with_numbers f (n + 1) xs) c (g (n + 1 + length xs) c) ≡ with_numbers g (n + 1) (insert_new nat_eq xs c))
+          → cond b ((x, g (n + suc (length xs)) c) ∷ with_numbers f (n + 1) xs) ((x, f n x) ∷ insert_entry nat_eq (with_numbers f (n + 1) xs) c (g (n + suc (length xs)) c))
+          ≡ with_numbers g n (cond b (x ∷ xs) (x ∷ insert_new nat_eq xs c))
       cases true e j more = cc
       cases false e j more =
           let d = same n x (sym (nat_eq-sym c x) ∙ e) in
           let p : n + suc (length xs) ≡ n + 1 + length xs = omega arith in
-          let m = ap (λ k. insert_entry nat_eq (numbered f (n + 1) xs) c (g k c)) p ∙ more j in
+          let m = ap (λ k. insert_entry nat_eq (with_numbers f (n + 1) xs) c (g k c)) p ∙ more j in
           cc (d, m)
 
-pub length-numbered : (f : ℕ → ℕ → Info) (n : ℕ) (xs : List ℕ) → length (numbered f n xs) ≡ length xs
+pub length-numbered : (f : ℕ → ℕ → Info) (n : ℕ) (xs : List ℕ) → length (with_numbers f n xs) ≡ length xs
 length-numbered f n [] = refl
 length-numbered f n (x ∷ xs) = ap suc (length-numbered f (n + 1) xs)
 
@@ -96,13 +96,13 @@ is_there None = false
 is_there (Some x) = true
 
 -- exactly the characters have an entry
-pub found-numbered : (f : ℕ → ℕ → Info) (c n : ℕ) (xs : List ℕ) → is_there (lookup (nat_eq c) (numbered f n xs)) ≡ list_any (nat_eq c) xs
+pub found-numbered : (f : ℕ → ℕ → Info) (c n : ℕ) (xs : List ℕ) → is_there (lookup (nat_eq c) (with_numbers f n xs)) ≡ list_any (nat_eq c) xs
 unfolding is_there
 found-numbered f c n [] = refl
 found-numbered f c n (x ∷ xs) = cases (nat_eq c x) (found-numbered f c (n + 1) xs)
   where
-    cases : (b : Bool) → is_there (lookup (nat_eq c) (numbered f (n + 1) xs)) ≡ list_any (nat_eq c) xs
-        → is_there (cond b (Some (f n x)) (lookup (nat_eq c) (numbered f (n + 1) xs))) ≡ b || list_any (nat_eq c) xs
+    cases : (b : Bool) → is_there (lookup (nat_eq c) (with_numbers f (n + 1) xs)) ≡ list_any (nat_eq c) xs
+        → is_there (cond b (Some (f n x)) (lookup (nat_eq c) (with_numbers f (n + 1) xs))) ≡ b || list_any (nat_eq c) xs
     cases true more = refl
     cases false more = more
 

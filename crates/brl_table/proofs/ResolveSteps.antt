@@ -14,7 +14,8 @@ use Rattle.brl_rules.specs.declared.rule.Info.{Info}
 use Rattle.brl_rules.specs.declared.rule.Rule.{Rule}
 use Rattle.brl_table.specs.declared.table_fault.TableFault.{TableFault}
 use Rattle.brl_table.specs.Items.{Fault}
-use Rattle.brl_table.specs.Reading.{reference_fault, rule_of, used_in, used_rules, IsAt}
+use Rattle.brl_table.specs.Faults.{reference_fault, IsAt}
+use Rattle.brl_table.specs.Reading.{rule_of, used_in, used_rules}
 use Rattle.brl_table.specs.Building.{over, IsReferenceFault, IsFirstUnresolved, Resolves}
 use Rattle.brl_table.proofs.ItemSteps.{used-more}
 use Rattle.brl_rules.proofs.Facts.{some_is}

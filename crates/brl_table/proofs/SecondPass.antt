@@ -18,7 +18,8 @@ use Rattle.brl_table.specs.Items.{Fault, fault}
 use Rattle.brl_table.specs.ItemLimits.{IsItemWithinLimits}
 use Rattle.brl_rules.specs.Limits.{IsEntry, IsRule}
 use Rattle.brl_rules.specs.Rank.{in_rank}
-use Rattle.brl_table.specs.Reading.{characters_alone, characters_in, characters_table, definitions, defined_entries, listed_characters, operand_of, has_two_roles, indicator_cells, reference_fault, second_pass_fault, reference_fault_of, files_of, item_in, items_of, notices_after, rule_of, table_of, used_in, used_rules, IsFaultOf, PassesBefore, PassesFirst}
+use Rattle.brl_table.specs.Faults.{characters_in, operand_of, has_two_roles, reference_fault, second_pass_fault, reference_fault_of, IsFirstFaultOf, PassesBefore, PassesFirst}
+use Rattle.brl_table.specs.Reading.{characters_alone, characters_table, definitions, defined_entries, listed_characters, cells_indicated, files_of, item_in, items_of, notices_after, rule_of, table_of, used_in, used_rules}
 use Rattle.brl_table.specs.Building.{over, IsReferenceFault, Resolves}
 use Rattle.brl_rules.specs.Signs.{by_sign}
 use Rattle.brl_rules.specs.TableView.{TableView}
@@ -97,7 +98,7 @@ module _ (lines : List LineView) (items : List Item) (aligned : map Ok items ≡
       let item = at items place (omega (arith, same-length, slice_get_within lines place line there)) in
       second-is place line item.0 there item.1 ∙ passed place line item.0 within there item.1
 
-  pub second-fault : (reported : TableFault) → PassesFirst lines → IsReferenceFault characters lines items reported → IsFaultOf lines reported
+  pub second-fault : (reported : TableFault) → PassesFirst lines → IsReferenceFault characters lines items reported → IsFirstFaultOf lines reported
   second-fault reported first (place, line, item, found, file_is, number_is) = (
     place,
     line,
@@ -116,13 +117,13 @@ module _ (lines : List LineView) (items : List Item) (aligned : map Ok items ≡
   -- the table of these lines
   pub table-is : (notices : List Notice) → notices ≡ notices_after [] (definitions items) → (rules : List Rule) → rules ≡ map (rule_of (over characters)) (used_rules items)
       → (t : TableView) → t.characters ≡ characters → t.rules ≡ in_rank rules
-      → t.signs ≡ by_sign (indicator_cells items) → t.files ≡ files_of lines → t.notices ≡ notices → t ≡ table_of lines
+      → t.signs ≡ by_sign (cells_indicated items) → t.files ≡ files_of lines → t.notices ≡ notices → t ≡ table_of lines
   table-is notices noticed rules ruled t its_characters its_rules its_signs its_files its_notices =
       let F = files_of lines in
       let of_items : List Item → TableView = λ xs.
       record (characters_table F xs) {
         rules = in_rank (map (rule_of (characters_table F xs)) (used_rules xs));
-        signs = by_sign (indicator_cells xs);
+        signs = by_sign (cells_indicated xs);
       } in
       let these : t.rules ≡ in_rank (map (rule_of (over (defined_entries (definitions items) (listed_characters items)))) (used_rules items)) =
       its_rules ∙ ap in_rank (ruled ∙ ap (λ es. map (rule_of (over es)) (used_rules items)) entries) in
@@ -137,7 +138,7 @@ whole lines items i past aligned = aligned ∙ ap (map (item_in (files_of lines)
 
 -- ---- the rules
 
-passed_text : (b : Bool) (wrong : Fault) → cond b None (Some wrong) ≡ None → b ≡ true
+pub passed_text : (b : Bool) (wrong : Fault) → cond b None (Some wrong) ≡ None → b ≡ true
 passed_text true wrong h = refl
 passed_text false wrong h = cc
 

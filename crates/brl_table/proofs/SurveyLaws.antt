@@ -7,7 +7,8 @@ use Rattle.std.proofs.lemmas.Option.{slice_get_within}
 use Rattle.brl_lines.specs.Tokens.{LineView}
 use Rattle.brl_table.specs.FaultText.{located_fault}
 use Rattle.brl_table.specs.Items.{Fault, fault}
-use Rattle.brl_table.specs.Reading.{IsFaultOf, IsFirstFound, PassesBefore, PassesFirst, fault_after, files_of, first_pass_fault, item_in, items_of, ok_of}
+use Rattle.brl_table.specs.Faults.{IsFirstFaultOf, IsFirstFound, PassesBefore, PassesFirst, fault_after, first_pass_fault}
+use Rattle.brl_table.specs.Reading.{files_of, item_in, items_of, ok_of}
 use Rattle.brl_table.specs.Survey.{faulty_line, faulty_line_if, faulty_lines, good_items, line_fault, with_line}
 use Rattle.brl_table.specs.declared.item.Item.{Item}
 use Rattle.brl_table.specs.declared.table_fault.TableFault.{TableFault}
@@ -18,7 +19,7 @@ use Rattle.brl_table.proofs.Places.{at, each-none, joined-first, joined-none, ta
 pub good-more : (files : List (List ℕ)) (lines : List LineView) (line : LineView) → good_items files (lines ++ line ∷ []) ≡ with_line files (good_items files lines) line
 good-more files lines line = fold-append (with_line files) [] lines (line ∷ [])
 
-items-more : (files : List (List ℕ)) (lines : List LineView) (line : LineView) → items_of files (lines ++ line ∷ []) ≡ items_of files lines ++ ok_of (item_in files line)
+pub items-more : (files : List (List ℕ)) (lines : List LineView) (line : LineView) → items_of files (lines ++ line ∷ []) ≡ items_of files lines ++ ok_of (item_in files line)
 items-more files lines line =
     flat_map-append (λ l. ok_of (item_in files l)) lines (line ∷ []) ∙ ap (λ items. items_of files lines ++ items) (append-nil (ok_of (item_in files line)))
 
@@ -94,7 +95,7 @@ module _ (lines : List LineView) where
       ap (λ q. faulty_line_if line (line_fault lines q line)) here
       ∙ ap (faulty_line_if line) (same-fault place line (omega (arith, within)) found.passed ∙ found.faulty))
 
-  pub finds-first : (found : TableFault) → IsFaultOf lines found → (PassesFirst lines → ⊥) → slice_get (map (λ faulty. faulty.fault) (faulty_lines lines)) 0 ≡ Some (located_fault found)
+  pub finds-first : (found : TableFault) → IsFirstFaultOf lines found → (PassesFirst lines → ⊥) → slice_get (map (λ faulty. faulty.fault) (faulty_lines lines)) 0 ≡ Some (located_fault found)
   finds-first found (place, line, inl first, file, number) fails =
       let (rest, is) = first-found place line (fault found.kind (string_bytes found.subject)) first in
       ap (λ faulty. slice_get (map (λ f. f.fault) faulty) 0) is ∙ cc

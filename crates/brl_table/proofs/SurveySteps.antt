@@ -7,7 +7,8 @@ use Rattle.brl_failure.specs.declared.failure.Failure.TheVariants as failures
 use Rattle.brl_failure.specs.Failure.{IfFault}
 use Rattle.brl_lines.specs.Tokens.{LineView}
 use Rattle.brl_table.specs.Items.{Fault}
-use Rattle.brl_table.specs.Reading.{fault_after, files_of, item_in, ok_of}
+use Rattle.brl_table.specs.Faults.{fault_after}
+use Rattle.brl_table.specs.Reading.{files_of, item_in, ok_of}
 use Rattle.brl_table.specs.Survey.{FaultyLineView, IsFaultyAs, faulty_line, faulty_line_if, faulty_line_view, good_items, line_fault, lines_with}
 use Rattle.brl_table.specs.declared.item.Item.{Item}
 use Rattle.brl_table.specs.declared.faulty.FaultyLine.{FaultyLine}

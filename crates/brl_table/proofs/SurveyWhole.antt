@@ -4,7 +4,7 @@ use Rattle.std.proofs.lemmas.Bool.{eqb-true, false≢true}
 use Rattle.std.proofs.lemmas.Option.{slice_get_within}
 use Rattle.std.proofs.lemmas.List.{nil_from_length}
 use Rattle.brl_lines.specs.Tokens.{LineView}
-use Rattle.brl_table.specs.Reading.{PassesAll, PassesBefore, second_pass_fault}
+use Rattle.brl_table.specs.Faults.{PassesAll, PassesBefore, second_pass_fault}
 use Rattle.brl_table.specs.Survey.{FaultyLineView, faulty_line_if, faulty_lines, survey_of, unresolved_lines}
 use Rattle.brl_table.proofs.Places.{each-none, joined-none}
 use Rattle.brl_table.proofs.SurveyLaws.{finds-none, none-faulty}

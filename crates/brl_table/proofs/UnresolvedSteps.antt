@@ -9,7 +9,8 @@ use Rattle.brl_rules.specs.declared.rule.Info.{Info}
 use Rattle.brl_rules.specs.declared.rule.Rule.{Rule}
 use Rattle.brl_table.specs.Building.{FindsReference, ResolvesLine}
 use Rattle.brl_table.specs.Items.{Fault}
-use Rattle.brl_table.specs.Reading.{PassesFirst, fault_after, files_of, item_in, items_of, ok_of}
+use Rattle.brl_table.specs.Faults.{PassesFirst, fault_after}
+use Rattle.brl_table.specs.Reading.{files_of, item_in, items_of, ok_of}
 use Rattle.brl_table.specs.Survey.{faulty_line_view, faulty_lines, good_items, passes_first}
 use Rattle.brl_table.specs.declared.faulty.FaultyLine.{FaultyLine}
 use Rattle.brl_table.specs.declared.item.Item.{Item}

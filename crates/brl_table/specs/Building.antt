@@ -18,7 +18,8 @@ use Rattle.brl_table.specs.Items.{Fault, fault}
 use Rattle.brl_table.specs.ItemLimits.{IsItemWithinLimits}
 use Rattle.brl_rules.specs.Limits.{IsRule}
 use Rattle.brl_rules.specs.Signs.{by_sign, cells_at}
-use Rattle.brl_table.specs.Reading.{Listed, PassesAll, PassesFirst, characters_alone, definitions, defined_entries, reference_fault, fault_after, files_of, first_plain, repeats_indicator, item_in, listed_characters, notices_after, rule_of, indicator_cells, used_in, used_rules}
+use Rattle.brl_table.specs.Faults.{PassesAll, PassesFirst, reference_fault, fault_after, repeats_indicator}
+use Rattle.brl_table.specs.Reading.{Listed, characters_alone, definitions, defined_entries, files_of, first_plain, item_in, listed_characters, notices_after, rule_of, cells_indicated, used_in, used_rules}
 use Rattle.brl_rules.specs.TableView.{TableView}
 
 -- ---- characters
@@ -87,7 +88,7 @@ pub record HaveRoles (items : List Item) (characters : Characters) : Type 0 wher
 
 -- the indicators have the cells that these items give them
 abbrev pub SignsRepresent : List Item → List (List ℕ) → Type 0
-SignsRepresent items signs = signs ≡ by_sign (indicator_cells items)
+SignsRepresent items signs = signs ≡ by_sign (cells_indicated items)
 
 -- the characters, the indicators and the number of used rules are what these items give
 pub record Represents (items : List Item) (characters : Characters) (signs : List (List ℕ)) (used : ℕ) : Type 0 where

@@ -34,15 +34,15 @@ abbrev pub fault : TableFaultKind → List ℕ → Fault
 fault kind subject = record { kind = kind; subject = subject }
 
 -- any fault of reading a word, as a fault of this kind about the word
-abbrev pub named : {A E : Type 0} → TableFaultKind → List ℕ → Result A E → Result A Fault
-named kind word (Ok x) = Ok x
-named kind word (Err other) = Err (fault kind word)
+abbrev pub or_fault : {A E : Type 0} → TableFaultKind → List ℕ → Result A E → Result A Fault
+or_fault kind word (Ok x) = Ok x
+or_fault kind word (Err other) = Err (fault kind word)
 
 -- ---- Operands
 
 -- the characters that an operand spells
 abbrev pub characters_spelled : List ℕ → Result (List ℕ) Fault
-characters_spelled word = named BadCharacters word (characters_of word)
+characters_spelled word = or_fault BadCharacters word (characters_of word)
 
 -- the character, if there is exactly one
 abbrev pub the_one : List ℕ → List ℕ → Result ℕ Fault
@@ -79,7 +79,7 @@ some_characters_of word = do
 
 -- the cells that an operand spells, at most 16
 abbrev pub cells_of : List ℕ → Result (List ℕ) Fault
-cells_of word = named BadDots word (reading 16 word)
+cells_of word = or_fault BadDots word (reading 16 word)
 
 -- a comma
 abbrev pub is_comma : ℕ → Bool
@@ -92,8 +92,8 @@ parts_of word = if list_any is_comma word then (before_first is_comma word, afte
 -- the cells of two characters: the same dots for both, or two with a comma between them
 abbrev pub cells_of_both : List ℕ → Result (List ℕ × List ℕ) Fault
 cells_of_both word = do
-  upper ← named BadDots word (reading 16 (parts_of word).0)
-  lower ← named BadDots word (reading 16 (parts_of word).1)
+  upper ← or_fault BadDots word (reading 16 (parts_of word).0)
+  lower ← or_fault BadDots word (reading 16 (parts_of word).1)
   Ok (upper, lower)
 
 -- the cells that an operand spells, as a rule's own cells
@@ -209,9 +209,9 @@ ruled_after head prefix (next ∷ operands) = ruled_as head next.text operands (
 -- ---- Lines
 
 -- an include line that is left after loading: one that names a file was replaced by its lines
-abbrev pub included : List ℕ → List TokenView → Result Item Fault
-included opcode [] = Err (fault MissingOperand opcode)
-included opcode (name ∷ comment) = Err (fault OutsideProfile opcode)
+abbrev pub left_include : List ℕ → List TokenView → Result Item Fault
+left_include opcode [] = Err (fault MissingOperand opcode)
+left_include opcode (name ∷ comment) = Err (fault OutsideProfile opcode)
 
 -- the item of a line with this opcode
 abbrev pub by_opcode : ℕ → ℕ → List ℕ → List TokenView → Option Opcode → Result Item Fault
@@ -225,7 +225,7 @@ by_opcode file line opcode operands (Some Noback) = ruled_after (head true true 
 by_opcode file line opcode operands (Some Nofor) = ruled_after (head false true file line) opcode operands
 by_opcode file line opcode operands (Some (Indicator sign)) = indicated sign opcode operands
 by_opcode file line opcode operands (Some (NumericList role)) = listed role opcode operands
-by_opcode file line opcode operands (Some Include) = included opcode operands
+by_opcode file line opcode operands (Some Include) = left_include opcode operands
 
 -- the item of a line of the file with this number, or the line's first fault
 abbrev pub item_of : ℕ → LineView → Result Item Fault

@@ -2,6 +2,7 @@ pub mod Opcodes
 pub mod Words
 pub mod Items
 pub mod Reading
+pub mod Faults
 pub mod Files
 pub mod FaultText
 pub mod Survey

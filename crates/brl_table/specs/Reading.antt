@@ -5,12 +5,11 @@
 -- `uplow` line defines a capital and its small letter. Section "Translation Opcodes": `=` in a rule
 -- means the cells of its characters. Section "Braille Indicator Opcodes": the cells of the
 -- indicators, `numericmodechars` and `numericnocontchars`. Which characters are compared without
--- case, the limits, the faults and the notices are this project's own choice.
-use Rattle.std.specs.Prelude.{ℕ, ◌≡◌, ◌+◌, ◌<◌, Bool, false, ◌||◌, ◌&&◌, not, ◌⊎◌, nat_eq, nat_lt, if◌then◌else◌, List, [], ◌∷◌, ◌++◌, length, map, filter, fold, take, position, slice_get, string_bytes, unwrap_or, Option, Some, None, is_some, Result, Ok, Err, bit_or, bytes_eq}
-use Rattle.std.specs.List.{find, flat_map, list_any}
+-- case, the limits, which lines define a table and the notices are this project's own choice.
+use Rattle.std.specs.Prelude.{ℕ, ◌+◌, ◌≤◌, Bool, false, ◌&&◌, not, nat_eq, if◌then◌else◌, IsTrue, List, [], ◌∷◌, ◌++◌, length, map, filter, fold, position, unwrap_or, Option, is_some, Result, Ok, Err, bit_or, bytes_eq}
+use Rattle.std.specs.List.{find, flat_map, list_all, list_any}
 use Rattle.std.specs.Option.{option_map_or, option_or}
-use Rattle.brl_failure.specs.declared.failure.Failure.{Failure}
-use Rattle.brl_failure.specs.declared.failure.Failure.TheVariants as failures
+use Rattle.std.specs.Result.{is_ok}
 use Rattle.brl_lines.specs.Tokens.{LineView}
 use Rattle.brl_rules.specs.declared.class.Class.{Class}
 use Rattle.brl_table.specs.declared.item.Definition.{Definition}
@@ -23,9 +22,7 @@ use Rattle.brl_rules.specs.declared.rule.Info.{Info}
 use Rattle.brl_rules.specs.declared.rule.Notice.{Notice}
 use Rattle.brl_rules.specs.declared.rule.Rule.{Rule}
 use Rattle.brl_rules.specs.declared.signs.Sign.{Sign}
-use Rattle.brl_table.specs.declared.table_fault.TableFault.{TableFault}
-use Rattle.brl_table.specs.declared.table_fault.TableFaultKind.TheVariants.{IndicatorTwice, TooMany, TwoRoles, UndefinedInList, UndefinedInRule}
-use Rattle.brl_table.specs.Items.{Fault, fault, item_of}
+use Rattle.brl_table.specs.Items.{Fault, item_of}
 use Rattle.brl_rules.specs.Rank.{in_rank}
 use Rattle.brl_rules.specs.Signs.{by_sign, is_same_sign, no_cells}
 use Rattle.brl_rules.specs.TableView.{TableView, info_of}
@@ -70,6 +67,10 @@ ok_of (Err wrong) = []
 -- the items of the lines, in order
 abbrev pub items_of : List (List ℕ) → List LineView → List Item
 items_of files lines = flat_map (λ line. ok_of (item_in files line)) lines
+
+-- the items of all lines of some files
+abbrev pub items_in : List LineView → List Item
+items_in lines = items_of (files_of lines) lines
 
 -- ---- Characters
 
@@ -132,13 +133,13 @@ defined_info defined listed number c = record {
 }
 
 -- the characters with their infos, numbered from this number on
-abbrev pub numbered : (ℕ → ℕ → Info) → ℕ → List ℕ → List (ℕ × Info)
-numbered info number [] = []
-numbered info number (c ∷ cs) = (c, info number c) ∷ numbered info (number + 1) cs
+abbrev pub with_numbers : (ℕ → ℕ → Info) → ℕ → List ℕ → List (ℕ × Info)
+with_numbers info number [] = []
+with_numbers info number (c ∷ cs) = (c, info number c) ∷ with_numbers info (number + 1) cs
 
 -- the characters of a table with their infos, numbered from 0
 abbrev pub defined_entries : List Definition → Listed → List (ℕ × Info)
-defined_entries defined listed = numbered (defined_info defined listed) 0 (defined_characters defined)
+defined_entries defined listed = with_numbers (defined_info defined listed) 0 (defined_characters defined)
 
 -- the characters of a list line, if its role is the first one
 abbrev pub chars_as : NumericRole → NumericRole → List ℕ → List ℕ
@@ -190,8 +191,8 @@ indicated_in sign (Indicates other cells) = if is_same_sign sign other then cell
 indicated_in sign other = []
 
 -- the cells of an indicator: those of the one line that gives it some, and none where no line does
-abbrev pub indicator_cells : List Item → Sign → List ℕ
-indicator_cells items sign = flat_map (indicated_in sign) items
+abbrev pub cells_indicated : List Item → Sign → List ℕ
+cells_indicated items sign = flat_map (indicated_in sign) items
 
 -- ---- Rules
 
@@ -222,119 +223,39 @@ rule_of t r =
 
 -- ---- The table
 
--- the table of lines that have no fault: its characters, the used rules in rank, and the indicators
+-- the table of lines that are good: its characters, the used rules in rank, and the indicators
 abbrev pub table_of : List LineView → TableView
 table_of lines =
-    let files = files_of lines in
-    let items = items_of files lines in
-    let t = characters_table files items in
+    let items = items_in lines in
+    let t = characters_table (files_of lines) items in
     record t {
       rules = in_rank (map (rule_of t) (used_rules items));
-      signs = by_sign (indicator_cells items);
+      signs = by_sign (cells_indicated items);
     }
 
--- ---- Faults of the first pass, over each line after those before it
+-- ---- Lines that define a table
 
--- the text of an operand of a line, from 0; empty where the line has none there
-abbrev pub operand_of : LineView → ℕ → List ℕ
-operand_of line n = option_map_or (λ token. token.text) (slice_get line.operands n) []
+-- whether an item gives this indicator its cells
+abbrev pub indicates : Sign → Item → Bool
+indicates sign (Indicates other cells) = is_same_sign sign other
+indicates sign other = false
 
--- the opcode that a line's fault names: the place opcode of a rule that follows `noback` or `nofor`
-abbrev pub opcode_in : LineView → Item → List ℕ
-opcode_in line (Rules r) = if r.head.prefixed then operand_of line 0 else line.opcode.text
-opcode_in line other = line.opcode.text
+-- the characters that an item names in a rule or a list
+abbrev pub named_in : Item → List ℕ
+named_in (Rules r) = r.chars
+named_in (Lists l) = l.chars
+named_in other = []
 
--- the operand that has a rule's characters
-abbrev pub characters_in : LineView → RuleLine → List ℕ
-characters_in line r = operand_of line (if r.head.prefixed then 1 else 0)
-
--- whether the items define more characters or more used rules than a table may have
-abbrev pub are_too_many : List Item → Bool
-are_too_many items = nat_lt 1024 (length (defined_characters (definitions items))) || nat_lt 4096 (length (used_rules items))
-
--- whether an item gives cells to an indicator to which an earlier one gave some
-abbrev pub repeats_indicator : List Item → Item → Bool
-repeats_indicator earlier (Indicates sign cells) = nat_lt 0 (length (indicator_cells earlier sign))
-repeats_indicator earlier other = false
-
--- the fault of a line after these items: its own, or what it does to the table; never both of these
-abbrev pub fault_after : List Item → LineView → Result Item Fault → Option Fault
-fault_after earlier line (Ok item) =
-    if repeats_indicator earlier item then Some (fault IndicatorTwice (opcode_in line item))
-    else if are_too_many (earlier ++ item ∷ []) then Some (fault TooMany (opcode_in line item))
-    else None
-fault_after earlier line (Err wrong) = Some wrong
-
--- the fault that the first pass finds in the line at a place
-abbrev pub first_pass_fault : List LineView → ℕ → LineView → Option Fault
-first_pass_fault lines place line =
-    let files = files_of lines in
-    fault_after (items_of files (take place lines)) line (item_in files line)
-
--- ---- Faults of the second pass, over each line among all
-
--- whether a `numericnocontchars` line names a character that has a `litdigit` line
-abbrev pub has_two_roles : TableView → NumericRole → List ℕ → Bool
-has_two_roles t KeepsMode chars = false
-has_two_roles t NeedsNoContractSign chars = list_any (is_literary t) chars
-
--- the fault of a line's references to characters: one is undefined, or would have two roles
-abbrev pub reference_fault : TableView → LineView → Item → Option Fault
-reference_fault t line (Rules r) = if is_text t r.chars then None else Some (fault UndefinedInRule (characters_in line r))
-reference_fault t line (Lists l) =
-    if not (is_text t l.chars) then Some (fault UndefinedInList (operand_of line 0))
-    else if has_two_roles t l.role l.chars then Some (fault TwoRoles (operand_of line 0))
-    else None
-reference_fault t line other = None
-
--- the fault of what a line refers to, where it was read; a line with a fault of its own refers to
--- nothing
-abbrev pub reference_fault_of : TableView → LineView → Result Item Fault → Option Fault
-reference_fault_of t line (Ok item) = reference_fault t line item
-reference_fault_of t line (Err wrong) = None
-
--- the fault that the second pass finds in the line at a place
-abbrev pub second_pass_fault : List LineView → ℕ → LineView → Option Fault
-second_pass_fault lines place line =
-    let files = files_of lines in
-    reference_fault_of (characters_table files (items_of files lines)) line (item_in files line)
-
--- ---- The first fault
-
--- a pass over the lines finds no fault before this place
-abbrev pub PassesBefore : (ℕ → LineView → Option Fault) → List LineView → ℕ → Type 0
-PassesBefore fault_at lines end = (place : ℕ) (line : LineView) → place < end → slice_get lines place ≡ Some line → fault_at place line ≡ None
-
--- the first pass finds no fault
-abbrev pub PassesFirst : List LineView → Type 0
-PassesFirst lines = PassesBefore (first_pass_fault lines) lines (length lines)
-
--- neither pass finds a fault
-pub record PassesAll (lines : List LineView) : Type 0 where
-  pub first : PassesFirst lines
-  pub second : PassesBefore (second_pass_fault lines) lines (length lines)
-
--- the line at a place is the first in which a pass finds a fault
-pub record IsFirstFound (fault_at : ℕ → LineView → Option Fault) (lines : List LineView) (place : ℕ) (line : LineView) (wrong : Fault) : Type 0 where
-  pub there : slice_get lines place ≡ Some line
-  pub faulty : fault_at place line ≡ Some wrong
-  pub passed : PassesBefore fault_at lines place
-
--- the first fault: that of the first pass or, where all lines pass it, that of the second
-abbrev pub IsFirstFault : List LineView → ℕ → LineView → Fault → Type 0
-IsFirstFault lines place line wrong =
-    IsFirstFound (first_pass_fault lines) lines place line wrong
-    ⊎ (PassesFirst lines × IsFirstFound (second_pass_fault lines) lines place line wrong)
-
--- the fault is the first one, with the file and number of its line
-abbrev pub IsFaultOf : List LineView → TableFault → Type 0
-IsFaultOf lines found =
-    (place : ℕ) × (line : LineView) × IsFirstFault lines place line (fault found.kind (string_bytes found.subject))
-    × (string_bytes found.file ≡ line.file) × (found.line ≡ line.line)
-
--- the fault of a line, with the line's file and number, unless memory ran out
-abbrev pub IsAt : LineView → Failure Fault → Failure TableFault → Type 0
-IsAt line failure failures.Memory = Unit {0}
-IsAt line failures.Memory (failures.Fault found) = ⊥
-IsAt line (failures.Fault wrong) (failures.Fault found) =
-    (fault found.kind (string_bytes found.subject) ≡ wrong) × (string_bytes found.file ≡ line.file) × (found.line ≡ line.line)
+-- lines define a table where each is good by itself, and they are good together
+pub record AreGood (lines : List LineView) : Type 0 where
+  -- each line has an item
+  pub each : IsTrue (list_all (λ line. is_ok (item_in (files_of lines) line)) lines)
+  -- at most one item gives an indicator its cells
+  pub once : (sign : Sign) → length (filter (indicates sign) (items_in lines)) ≤ 1
+  -- there are at most 1,024 characters, and at most 4,096 used rules
+  pub few_characters : length (table_of lines).characters ≤ 1024
+  pub few_rules : length (table_of lines).rules ≤ 4096
+  -- the characters of each rule and list are defined
+  pub known : IsTrue (is_text (table_of lines) (flat_map named_in (items_in lines)))
+  -- no `numericnocontchars` line names a character that has a `litdigit` line
+  pub apart : IsTrue (not (list_any (is_literary (table_of lines)) (listed_characters (items_in lines)).nocont))

@@ -12,7 +12,8 @@ use Rattle.brl_lines.specs.Tokens.{LineView}
 use Rattle.brl_table.specs.FaultText.{LocatedFault, located_fault}
 use Rattle.brl_table.specs.Items.{Fault}
 use Rattle.brl_table.specs.Opcodes.{opcode_of}
-use Rattle.brl_table.specs.Reading.{defined_characters, defined_entries, definitions, fault_after, files_of, item_in, ok_of, second_pass_fault}
+use Rattle.brl_table.specs.Faults.{fault_after, second_pass_fault}
+use Rattle.brl_table.specs.Reading.{defined_characters, defined_entries, definitions, files_of, item_in, ok_of}
 use Rattle.brl_table.specs.declared.item.Item.{Item}
 use Rattle.brl_table.specs.declared.opcode.Opcode.{Opcode}
 use Rattle.brl_table.specs.declared.opcode.Opcode.TheVariants.{Noback, Nofor}

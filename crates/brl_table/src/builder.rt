@@ -11,27 +11,30 @@ ghost use Rattle.brl_table.specs.declared.item.Definition.{Definition};
 ghost use Rattle.brl_table.specs.declared.item.Item.{Item as ItemView};
 ghost use Rattle.brl_table.specs.declared.item.Item.TheVariants as items;
 ghost use Rattle.brl_rules.specs.declared.rule.Rule.{Rule as RuleView};
-ghost use Rattle.brl_table.specs.Reading.{
-  Listed,
+ghost use Rattle.brl_table.specs.Faults.{
   are_too_many,
-  defined_characters,
-  definitions,
-  defined_entries,
   repeats_indicator as repeats_indicator_by,
-  files_of,
   characters_in as characters_named,
   opcode_in as opcode_named,
   operand_of as operand_named,
+  IsAt,
+  IsFirstFaultOf,
+};
+ghost use Rattle.brl_table.specs.Reading.{
+  AreGood,
+  Listed,
+  defined_characters,
+  definitions,
+  defined_entries,
+  files_of,
   rule_of,
   table_of,
   used_rules,
-  IsAt,
-  IsFaultOf,
-  PassesAll,
 };
 
 use crate::characters::Characters;
 use crate::item::{Item, ListLine, NumericRole, RuleLine};
+use crate::laws::good_lines_law;
 use crate::line::item_of;
 use crate::operand::refuse;
 use crate::table_fault::WordFault;
@@ -56,10 +59,11 @@ const MOST_RULES: usize = 4096;
 /// The second pass comes after all definitions are known. It asks whether the table defines the
 /// characters of each rule and list, and then whether a `numericnocontchars` line names a digit.
 pub fn read_table(alloc: Global, lines: &[Line<'_>]) -> Result<Table, Failure<TableFault>>
-    ensures passes { IfOk result (λ _. PassesAll (map line_view lines.now)) }
+    ensures good { IfOk result (λ _. AreGood (map line_view lines.now)) }
     ensures table { IfOk result (λ table. table ≡ table_of (map line_view lines.now)) }
-    ensures fault { IfErr result (IfFault (IsFaultOf (map line_view lines.now))) }
+    ensures fault { IfErr result (IfFault (IsFirstFaultOf (map line_view lines.now))) }
 {
+    good_lines_law();
     let files = file_names(alloc, lines)?;
     let mut builder = TableBuilder::new(alloc);
     let rules = builder.read(alloc, files.as_slice(), lines)?;
@@ -107,7 +111,7 @@ impl TableBuilder {
         requires named { map string_bytes files.now ≡ files_of (map line_view lines.now) }
         ensures read { IfOk result (λ rules.
             AreRead (map line_view lines.now) self.new.items.items self.new.characters self.new.signs self.new.used rules.items) }
-        ensures fault { IfErr result (IfFault (IsFaultOf (map line_view lines.now))) }
+        ensures fault { IfErr result (IfFault (IsFirstFaultOf (map line_view lines.now))) }
     {
         self.add_all(alloc, files, lines)?;
         apply_lists(self.items.as_slice(), &mut self.characters);
@@ -128,7 +132,7 @@ impl TableBuilder {
         requires named { map string_bytes files.now ≡ files_of (map line_view lines.now) }
         ensures added { OnOk result
             (AreAdded (map line_view lines.now) self.new.items.items self.new.characters self.new.signs self.new.used) }
-        ensures fault { IfErr result (IfFault (IsFaultOf (map line_view lines.now))) }
+        ensures fault { IfErr result (IfFault (IsFirstFaultOf (map line_view lines.now))) }
     {
         for line in lines {
             let file = place_of(files, line.file).unwrap();

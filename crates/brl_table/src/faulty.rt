@@ -4,7 +4,8 @@ ghost use Rattle.brl_lines.specs.Tokens.{LineView};
 ghost use Rattle.brl_lines.specs.Views.{line_view};
 ghost use Rattle.brl_table.specs.Building.{AreWithinLimits, Represents};
 ghost use Rattle.brl_table.specs.FaultText.{located_fault};
-ghost use Rattle.brl_table.specs.Reading.{files_of, items_of, IsFaultOf, PassesAll, PassesFirst};
+ghost use Rattle.brl_table.specs.Faults.{IsFirstFaultOf, PassesFirst};
+ghost use Rattle.brl_table.specs.Reading.{AreGood, files_of, items_of};
 ghost use Rattle.brl_table.specs.Survey.{
   IsFaultyAs,
   faulty_line_view,
@@ -21,6 +22,7 @@ ghost use Rattle.brl_table.specs.declared.table_fault.TableFault.{TableFault as 
 
 use crate::TableFault;
 use crate::builder::{TableBuilder, fault_at, file_names, place_of};
+use crate::laws::good_lines_law;
 use crate::opcode::{Opcode, opcode_named};
 use crate::table_fault::WordFault;
 use brl_failure::Failure;
@@ -179,7 +181,9 @@ fn prefixed_word<'a>(line: &Line<'a>) -> Option<&'a str>
 /// table.
 pub fn survey_laws()
     ensures none { (lines : List LineView) → (faulty_lines lines ≡ []) ↔ PassesFirst lines }
-    ensures first { (lines : List LineView) (found : Fault) → IsFaultOf lines found → (PassesFirst lines → ⊥) →
+    ensures first { (lines : List LineView) (found : Fault) → IsFirstFaultOf lines found → (PassesFirst lines → ⊥) →
         slice_get (map (λ faulty. faulty.fault) (faulty_lines lines)) 0 ≡ Some (located_fault found) }
-    ensures all { (lines : List LineView) → ((survey_of lines).faulty ≡ []) ↔ PassesAll lines }
-{}
+    ensures all { (lines : List LineView) → ((survey_of lines).faulty ≡ []) ↔ AreGood lines }
+{
+    good_lines_law();
+}

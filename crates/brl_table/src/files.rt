@@ -3,11 +3,13 @@ ghost use Rattle.std.specs.Prelude.{◌≡◌, ℕ, List, IfErr, IfOk};
 ghost use Rattle.brl_failure.specs.Failure.{IfFault};
 ghost use Rattle.brl_lines.specs.Answer.{IsDeterministic};
 ghost use Rattle.brl_lines.specs.Outcome.{CountsFailure};
-ghost use Rattle.brl_table.specs.Files.{IsFaultAt, IsTableOf, load_outcome};
-ghost use Rattle.brl_table.specs.Reading.{IsFaultOf, PassesAll, table_of};
+ghost use Rattle.brl_table.specs.Faults.{IsFaultAt, IsFirstFaultOf, load_outcome};
+ghost use Rattle.brl_table.specs.Files.{IsTableOf};
+ghost use Rattle.brl_table.specs.Reading.{AreGood, table_of};
 ghost use Rattle.brl_table.specs.declared.no_table.NoTable.{NoTable as NoTableValue};
 ghost use Rattle.brl_rules.specs.TableView.{TableView};
 
+use crate::laws::good_lines_law;
 use crate::{NoTable, TableFault, read_table};
 use brl_failure::{Failure, raise};
 use brl_lines::{Loaded, Source, load, one_answer_law};
@@ -33,9 +35,9 @@ pub fn load_table<S: Source>(
 
 /// The table that the lines of loaded files define, or the fault of the first line that has one.
 pub fn table_of_loaded(alloc: Global, loaded: &Loaded) -> Result<Table, Failure<TableFault>>
-    ensures passes { IfOk result (λ _. PassesAll loaded.now.lines) }
+    ensures good { IfOk result (λ _. AreGood loaded.now.lines) }
     ensures table { IfOk result (λ table. table ≡ table_of loaded.now.lines) }
-    ensures fault { IfErr result (IfFault (IsFaultOf loaded.now.lines)) }
+    ensures fault { IfErr result (IfFault (IsFirstFaultOf loaded.now.lines)) }
 {
     let lines = loaded.lines(alloc)?;
     read_table(alloc, lines.as_slice())
@@ -50,4 +52,5 @@ pub fn one_table_law<S: Source>(source: &S)
         (fault : NoTableValue) → IsFaultAt (S.gives source.now) root fault → ⊥ }
 {
     one_answer_law(source);
+    good_lines_law();
 }

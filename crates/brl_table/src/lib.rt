@@ -24,6 +24,7 @@ mod characters;
 mod faulty;
 mod files;
 mod item;
+mod laws;
 mod liblouis;
 mod line;
 mod no_table;
@@ -39,6 +40,7 @@ pub use brl_rules::{
 pub use builder::read_table;
 pub use faulty::{FaultyLine, Findings, good_characters, survey, survey_laws};
 pub use files::{load_table, one_table_law, table_of_loaded};
+pub use laws::good_lines_law;
 pub use liblouis::{OpcodeOrigin, origin_of};
 pub use no_table::NoTable;
 pub use opcode::{OPCODES, indicator_named, is_place_opcode, opcodes_law};

@@ -11,7 +11,7 @@ ghost use Rattle.brl_table.specs.Items.{
   cells_of as cells_spelled,
   cells_of_both,
   fault,
-  named,
+  or_fault,
   one_operand as first_operand,
   two_operands as first_operands,
   parts_of as parts_around,
@@ -125,7 +125,7 @@ pub(crate) fn cells_of(alloc: Global, word: &str) -> Result<Cells, Failure<WordF
 
 /// The cells that a part of an operand spells, at most 16. Its fault names the whole operand.
 fn cells_in(alloc: Global, part: &str, word: &str) -> Result<Cells, Failure<WordFault>>
-    ensures cells { Gives (named TheBadDots word.now (reading 16 part.now)) result }
+    ensures cells { Gives (or_fault TheBadDots word.now (reading 16 part.now)) result }
     ensures some { IfOk result (λ cells. 1 ≤ length cells) }
     ensures few { IfOk result (λ cells. length cells ≤ 16) }
 {

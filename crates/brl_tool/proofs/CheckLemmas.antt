@@ -15,7 +15,8 @@ use Rattle.brl_lines.specs.Outcome.{CountsFailure}
 use Rattle.brl_lines.specs.Tokens.{LineView}
 use Rattle.brl_lines.specs.declared.fault.LoadFaultKind.{LoadFaultKind}
 use Rattle.brl_lines.specs.declared.fault.LoadFaultKind.TheVariants as kinds
-use Rattle.brl_table.specs.Files.{IsFaultAt, IsTableOf}
+use Rattle.brl_table.specs.Faults.{IsFaultAt}
+use Rattle.brl_table.specs.Files.{IsTableOf}
 use Rattle.brl_table.specs.Reading.{table_of}
 use Rattle.brl_table.specs.declared.no_table.NoTable.{NoTable as NoTableFault}
 use Rattle.brl_table.specs.declared.no_table.NoTable.TheVariants as no_table

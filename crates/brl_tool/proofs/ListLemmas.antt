@@ -18,7 +18,7 @@ use Rattle.brl_clashes.specs.declared.list_form.ListForm.{ListForm}
 use Rattle.brl_clashes.specs.declared.section.Section.{Section}
 use Rattle.brl_clashes.specs.declared.verdict.ListOutcome.{ListOutcome}
 use Rattle.brl_clashes.specs.declared.verdict.ListOutcome.TheVariants.{Unambiguous, Clashing, Unfinished}
-use Rattle.brl_table.specs.Reading.{PassesAll, table_of}
+use Rattle.brl_table.specs.Reading.{AreGood, table_of}
 use Rattle.brl_tool.specs.Baselines.{AreExcused, excused_by_text, IsBaseline, is_written, leaves_stale, written_path, written_text}
 use Rattle.brl_traces.specs.Traces.{ClashesDivergeAtWithout}
 use Rattle.brl_tool.specs.Diagnosing.{Diagnoses, IsDiagnosis, IsInput, form_by, status_of_sections}
@@ -97,7 +97,7 @@ module _ (before : World) (failures : ℕ) (contents : Option (List ℕ)) (after
 
   -- a list that is whole was written, and its file
   list_written : (path : List ℕ) (alphabet : AlphabetView) (pairs : PairFiles) (baseline : Option (List ℕ)) (paths : List (List ℕ)) (lines : List LineView) (limit : ℕ) (form : ListForm) (printed : List ℕ) (answer : Answer)
-      → AreLinesOfFiles before.gives path paths lines → PassesAll lines → IsBaseline before.gives (option_copied pairs.accept) baseline → (d : IsDiagnosis alphabet (table_of lines) lines limit form baseline pairs printed answer)
+      → AreLinesOfFiles before.gives path paths lines → AreGood lines → IsBaseline before.gives (option_copied pairs.accept) baseline → (d : IsDiagnosis alphabet (table_of lines) lines limit form baseline pairs printed answer)
       → (outcome_of d.left ≡ Unfinished → ⊥) → FilesAfter before.gives after.gives answer.files → Prints before shown printed → Prints shown after (string_bytes answer.text) → WritesList before after path alphabet pairs lines d.accepted
   list_written path alphabet pairs baseline paths lines limit form printed answer are passes read d decided files shows prints = record {
     lines_are = lines_of before.gives path paths lines are;

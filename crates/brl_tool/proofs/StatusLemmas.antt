@@ -38,7 +38,7 @@ use Rattle.brl_rules.specs.TableView.{TableView}
 use Rattle.brl_answers.proofs.DeliveryLemmas.{none_changes}
 use Rattle.brl_answers.proofs.StepLemmas.{then_ok}
 use Rattle.brl_clashes.specs.declared.verdict.ListOutcome.TheVariants.{Clashing}
-use Rattle.brl_table.specs.Reading.{PassesAll, table_of}
+use Rattle.brl_table.specs.Reading.{AreGood, table_of}
 use Rattle.brl_tool.specs.Baselines.{read_paths}
 use Rattle.brl_cut.specs.Cuts.{IsRead, written_root}
 use Rattle.brl_cut.specs.Edits.{Texts}
@@ -221,7 +221,7 @@ module _ (before after : World) (same_file : MayBeSame) where
   shown_but None left_out lines excusal nothing shown = shown.1 nothing
   shown_but (Some path) left_out lines excusal at shown = shown
 
-  module _ (path out : List ℕ) (accept : Option (List ℕ)) (option : AlphabetOption) (limit : ℕ) (alphabet : AlphabetView) (spelled : spelled_by option ≡ Some alphabet) (paths : List (List ℕ)) (lines : List LineView) (are : AreLinesOfFiles before.gives path paths lines) (passes : PassesAll lines)
+  module _ (path out : List ℕ) (accept : Option (List ℕ)) (option : AlphabetOption) (limit : ℕ) (alphabet : AlphabetView) (spelled : spelled_by option ≡ Some alphabet) (paths : List (List ℕ)) (lines : List LineView) (are : AreLinesOfFiles before.gives path paths lines) (passes : AreGood lines)
       (apart : All (λ one. one ≢ out) (read_paths paths accept)) (excusal : Excusal) (excused : Excuses before.gives accept (table_of lines) lines excusal) (answer : Answer) (files : FilesAfter before.gives after.gives answer.files)
       (prints : Prints before after (string_bytes answer.text)) where
     abbrev IsMeant : Type 0

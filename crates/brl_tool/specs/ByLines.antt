@@ -9,12 +9,13 @@ use Rattle.brl_lines.specs.Answer.{FileAnswers}
 use Rattle.brl_lines.specs.Loaded.{LoadedView}
 use Rattle.brl_lines.specs.Outcome.{AreLinesOfFiles, IsLoadFault}
 use Rattle.brl_lines.specs.Tokens.{LineView}
-use Rattle.brl_table.specs.Reading.{IsFaultOf, PassesAll}
+use Rattle.brl_table.specs.Faults.{IsFirstFaultOf}
+use Rattle.brl_table.specs.Reading.{AreGood}
 
 -- what is answered by the lines of the table at a path, or why there is no table
 abbrev pub ByLines : FileAnswers → List ℕ → (List LineView → Result Answer RunFault → Type 0) → Result Answer RunFault → Type 0
 ByLines gives path answers outcome =
-    Then (λ lines. (paths : List (List ℕ)) × AreLinesOfFiles gives path paths lines × PassesAll lines) (HasNoTable gives path) answers outcome
+    Then (λ lines. (paths : List (List ℕ)) × AreLinesOfFiles gives path paths lines × AreGood lines) (HasNoTable gives path) answers outcome
 
 -- what is answered by the files of the table at a path, whatever their lines say, or why they can't
 -- be loaded
@@ -24,7 +25,7 @@ ByFiles gives path answers outcome =
 
 -- what is answered where no line has a fault, or the first fault
 abbrev pub IfPassing : {A : Type 0} → List LineView → (Result A RunFault → Type 0) → Result A RunFault → Type 0
-IfPassing lines answers outcome = Provided (PassesAll lines) (EndsAs Table (IsFaultOf lines)) answers outcome
+IfPassing lines answers outcome = Provided (AreGood lines) (EndsAs Table (IsFirstFaultOf lines)) answers outcome
 
 -- the lines of a table, where they are shown, and else none
 abbrev pub shown_lines : Bool → List LineView → List LineView

@@ -12,7 +12,7 @@ use Rattle.brl_pairs.specs.Body.{BodyView}
 use Rattle.brl_lines.specs.Answer.{FileAnswer, FileAnswers, Holds, MayAnswer}
 use Rattle.brl_lines.specs.Outcome.{AreLinesOf}
 use Rattle.brl_table.specs.Files.{IsTableOf}
-use Rattle.brl_table.specs.Reading.{PassesAll, table_of}
+use Rattle.brl_table.specs.Reading.{AreGood, table_of}
 use Rattle.brl_report.specs.Report.{report_text_with}
 use Rattle.brl_report.specs.Unused.{unused_text}
 use Rattle.brl_search.specs.Clashes.{ClashesDiverge}
@@ -109,7 +109,7 @@ KeepsOutput asked before shown = (shown.failures ≡ before.failures) × (shown.
 -- these are the lines of the table of the file at a path, and this is excused of it
 abbrev pub IsExcusalOf : World → List ℕ → Option (List ℕ) → List LineView → Excusal → Type 0
 IsExcusalOf before path accept lines excusal =
-    AreLinesOf before.gives path lines × PassesAll lines × Excuses before.gives accept (table_of lines) lines excusal
+    AreLinesOf before.gives path lines × AreGood lines × Excuses before.gives accept (table_of lines) lines excusal
 
 -- what a certificate shows of a table: any two texts that use none of some characters, and that it
 -- translates to the same cells, are equal; or, where a file excuses pairs of rules, they are the
@@ -134,7 +134,7 @@ ReportsRefusal before after = (rest : List ℕ) × Prints before after (codes "r
 -- of that table or without
 abbrev pub ReportsClash : World → World → Type 0
 ReportsClash before after =
-    (path left right cells : List ℕ) × (lines : List LineView) × AreLinesOf before.gives path lines × PassesAll lines
+    (path left right cells : List ℕ) × (lines : List LineView) × AreLinesOf before.gives path lines × AreGood lines
     × IsClash (table_of lines) left right cells
     × ((with_lines : Bool) × Prints before after (report_text_with (table_of lines) (shown_lines with_lines lines) left right cells))
 
@@ -150,7 +150,7 @@ WritesFile before after (Some path) true content = GivesAlso after.gives path co
 -- list were written, or stale lines taken out of that file, where that is asked for.
 pub record WritesList (before after : World) (path : List ℕ) (alphabet : AlphabetView) (pairs : PairFiles) (lines : List LineView) (accepted : List (ℕ × ℕ)) : Type 0 where
   pub lines_are : AreLinesOf before.gives path lines
-  pub passes : PassesAll lines
+  pub passes : AreGood lines
   pub limit : ℕ
   pub form : ListForm
   pub baseline : Option (List ℕ)

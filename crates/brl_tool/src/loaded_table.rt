@@ -3,7 +3,8 @@ ghost use Rattle.std.specs.Prelude.{◌≡◌, IfErr, IfOk};
 ghost use Rattle.brl_answers.specs.Answers.{HasNoTable, load_outcome};
 ghost use Rattle.brl_failure.specs.Failure.{IfFault};
 ghost use Rattle.brl_lines.specs.Outcome.{AreLinesOfFiles, CountsFailure};
-ghost use Rattle.brl_table.specs.Reading.{IsFaultOf, PassesAll, table_of};
+ghost use Rattle.brl_table.specs.Faults.{IsFirstFaultOf};
+ghost use Rattle.brl_table.specs.Reading.{AreGood, table_of};
 
 use brl_answers::RunFault;
 use brl_failure::Failure;
@@ -23,9 +24,9 @@ impl LoadedTable {
     /// The table that the lines of these files define, or the fault of the first line that has one.
     pub fn of(alloc: Global, files: Loaded) -> Result<LoadedTable, Failure<TableFault>>
         ensures files { IfOk result (λ loaded. loaded.files ≡ files) }
-        ensures passes { IfOk result (λ loaded. PassesAll files.lines) }
+        ensures passes { IfOk result (λ loaded. AreGood files.lines) }
         ensures table { IfOk result (λ loaded. loaded.table ≡ table_of files.lines) }
-        ensures fault { IfErr result (IfFault (IsFaultOf files.lines)) }
+        ensures fault { IfErr result (IfFault (IsFirstFaultOf files.lines)) }
     {
         let table = table_of_loaded(alloc, &files)?;
         Ok(LoadedTable { files, table })
@@ -39,7 +40,7 @@ pub fn table_at<S: Source>(
     path: &str,
 ) -> Result<LoadedTable, RunFault>
     ensures lines { IfOk result (λ loaded. AreLinesOfFiles (S.gives source.old) path.now loaded.files.paths loaded.files.lines) }
-    ensures passes { IfOk result (λ loaded. PassesAll loaded.files.lines) }
+    ensures passes { IfOk result (λ loaded. AreGood loaded.files.lines) }
     ensures table { IfOk result (λ loaded. loaded.table ≡ table_of loaded.files.lines) }
     ensures fault { IfErr result (HasNoTable (S.gives source.old) path.now) }
     ensures count { CountsFailure (S.faults source.old) (S.faults source.new) (load_outcome result) }

@@ -9,7 +9,8 @@ use Rattle.brl_failure.specs.declared.failure.Failure.{Failure}
 use Rattle.brl_failure.specs.declared.failure.Failure.TheVariants.{Fault, Memory}
 use Rattle.brl_lines.specs.Answer.{FileAnswers}
 use Rattle.brl_lines.specs.Outcome.{CountsFailure}
-use Rattle.brl_table.specs.Files.{IsFaultAt, IsTableOf, load_outcome as outcome_at}
+use Rattle.brl_table.specs.Faults.{IsFaultAt, load_outcome as outcome_at}
+use Rattle.brl_table.specs.Files.{IsTableOf}
 use Rattle.brl_table.specs.declared.no_table.NoTable.{NoTable as NoTableFault}
 use Rattle.brl_rules.specs.TableView.{TableView}
 use Rattle.brl_accept.proofs.Judged.{accepted_at, judged_count, refused_at}

@@ -1,7 +1,8 @@
 use Rattle.std.proofs.Common.{[], IfErr, IfOk, map, subst}
 use Rattle.brl_failure.specs.Failure.{IfFault}
 use Rattle.brl_lines.specs.Answer.{FileAnswers}
-use Rattle.brl_table.specs.Files.{IsFaultAt, IsTableOf}
+use Rattle.brl_table.specs.Faults.{IsFaultAt}
+use Rattle.brl_table.specs.Files.{IsTableOf}
 use Rattle.brl_cut.specs.Files.{file_view}
 use Rattle.brl_cut.proofs.RoundLemmas.{only-held}
 use Rattle.brl_cut.proofs.cutting.read_back.Goals as goal

@@ -19,6 +19,9 @@ finish-requires-clause-rules c =
     let count : length (files_of (map line_view c.args.lines.now)) ≡ vec_len names = omega (arith, ap length c.in_ok-files.ensures, length-map names.items (string_bytes {Z = Global})) in
     subst (λ n. All (IsRule c.read.new.self.characters.infos.entries n) c.in_ok-rules.rules.items) count c.in_ok-rules.ensures.read.rules_valid
 
+pub returns-clause-good : goal.returns-clause-good
+returns-clause-good c = (c.good_lines_law.ensures (map line_view c.args.lines.now)).0 c.in_ok-rules.ensures.read.passed
+
 pub returns-clause-table : goal.returns-clause-table
 returns-clause-table c =
     let read = c.in_ok-rules.ensures.read in

@@ -2,7 +2,7 @@ use Rattle.std.proofs.Common.{◌∙◌, ◌+◌, List, ap, map, subst, sym}
 use Rattle.brl_failure.specs.Raised.{if_fault-weaker}
 use Rattle.brl_lines.specs.Views.{line_view}
 use Rattle.brl_table.specs.Building.{AreWithinLimits, Represents}
-use Rattle.brl_table.specs.Reading.{fault_after}
+use Rattle.brl_table.specs.Faults.{fault_after}
 use Rattle.brl_table.specs.declared.faulty.FaultyLine.{FaultyLine}
 use Rattle.brl_table.specs.declared.builder.TableBuilder.{TableBuilder}
 use Rattle.brl_table.proofs.FirstPass.{reads, there}

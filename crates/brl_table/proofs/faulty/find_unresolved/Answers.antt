@@ -2,7 +2,8 @@ use Rattle.std.proofs.Common.{◌≡◌, ◌<◌, ◌+◌, ◌∙◌, List, Ok, 
 use Rattle.std.proofs.lemmas.List.{length-map}
 use Rattle.brl_failure.specs.Raised.{if_fault-weaker}
 use Rattle.brl_lines.specs.Views.{line_view}
-use Rattle.brl_table.specs.Reading.{files_of, item_in, second_pass_fault}
+use Rattle.brl_table.specs.Faults.{second_pass_fault}
+use Rattle.brl_table.specs.Reading.{files_of, item_in}
 use Rattle.brl_table.specs.declared.faulty.FaultyLine.{FaultyLine}
 use Rattle.brl_table.proofs.ResolveSteps.{line_there}
 use Rattle.brl_table.proofs.SecondPass.{at, same-length, second-is}

@@ -1,6 +1,6 @@
 use Rattle.std.proofs.Common.{map}
 use Rattle.brl_lines.specs.Views.{line_view}
-use Rattle.brl_table.specs.Reading.{second_pass_fault}
+use Rattle.brl_table.specs.Faults.{second_pass_fault}
 use Rattle.brl_table.proofs.SurveySteps.{AreFound}
 use Rattle.brl_table.proofs.faulty.find_unresolved.Given as goal
 

@@ -7,8 +7,9 @@ use Rattle.brl_lines.specs.Answer.{FileAnswers}
 use Rattle.brl_lines.specs.Loaded.{LoadedView}
 use Rattle.brl_lines.specs.Outcome.{AreLinesOf, AreLinesOfFiles, CountsFailure}
 use Rattle.brl_lines.specs.declared.fault.LoadFault.{LoadFault}
-use Rattle.brl_table.specs.Files.{IsFaultAt, IsTableOf, load_outcome}
-use Rattle.brl_table.specs.Reading.{IsFaultOf, PassesAll, table_of}
+use Rattle.brl_table.specs.Faults.{IsFaultAt, IsFirstFaultOf, load_outcome}
+use Rattle.brl_table.specs.Files.{IsTableOf}
+use Rattle.brl_table.specs.Reading.{AreGood, table_of}
 use Rattle.brl_table.specs.declared.no_table.NoTable.{NoTable}
 use Rattle.brl_table.specs.declared.no_table.NoTable.TheVariants.{Table}
 use Rattle.brl_table.specs.declared.table_fault.TableFault.{TableFault}
@@ -36,8 +37,8 @@ returns-clause-table g c =
     let gives = g.S.Source.gives c.args.source.now in
     let loaded = c.in_ok-loaded.loaded in
     let is = raised_is _ c.load.result c.raise.result loaded c.raise.ensures c.in_ok-loaded.was in
-    if_ok-raised _ (λ t. PassesAll loaded.lines × (t ≡ table_of loaded.lines)) (IsTableOf gives c.args.root.now) c.table_of_loaded.result c.raise-2.result c.raise-2.ensures
-    (if_ok-both _ _ c.table_of_loaded.result c.table_of_loaded.ensures.passes c.table_of_loaded.ensures.table)
+    if_ok-raised _ (λ t. AreGood loaded.lines × (t ≡ table_of loaded.lines)) (IsTableOf gives c.args.root.now) c.table_of_loaded.result c.raise-2.result c.raise-2.ensures
+    (if_ok-both _ _ c.table_of_loaded.result c.table_of_loaded.ensures.good c.table_of_loaded.ensures.table)
     (λ t h. (loaded.lines, lines_given gives c.args.root.now c.load.result loaded is c.load.ensures.lines, h.0, h.1))
 
 pub returns-clause-fault : goal.returns-clause-fault
@@ -45,7 +46,7 @@ returns-clause-fault g c =
     let gives = g.S.Source.gives c.args.source.now in
     let loaded = c.in_ok-loaded.loaded in
     let is = raised_is _ c.load.result c.raise.result loaded c.raise.ensures c.in_ok-loaded.was in
-    if_err-raised _ (IsFaultOf loaded.lines) (IsFaultAt gives c.args.root.now) c.table_of_loaded.result c.raise-2.result c.raise-2.ensures c.table_of_loaded.ensures.fault
+    if_err-raised _ (IsFirstFaultOf loaded.lines) (IsFaultAt gives c.args.root.now) c.table_of_loaded.result c.raise-2.result c.raise-2.ensures c.table_of_loaded.ensures.fault
     (λ one other same h. subst (IsFaultAt gives c.args.root.now) (sym same)
     (loaded.lines, lines_given gives c.args.root.now c.load.result loaded is c.load.ensures.lines, h))
 

@@ -2,7 +2,7 @@ use Rattle.std.proofs.Common.{◌∙◌, ◌+◌, ◌++◌, ◌∷◌, [], ap, s
 use Rattle.brl_lines.specs.Views.{line_view}
 use Rattle.brl_table.specs.declared.table_fault.TableFaultKind.TheVariants.{TooMany}
 use Rattle.brl_table.specs.Items.{fault}
-use Rattle.brl_table.specs.Reading.{fault_after}
+use Rattle.brl_table.specs.Faults.{fault_after}
 use Rattle.brl_table.proofs.ItemSteps.{fault-too_many, refused-adds, signs-within, within-limits}
 use Rattle.brl_table.proofs.builder.TableBuilder.add.Goals as goal
 

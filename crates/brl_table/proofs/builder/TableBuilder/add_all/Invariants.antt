@@ -1,7 +1,8 @@
 use Rattle.std.proofs.Common.{◌≡◌, Ok, length, map, take, All}
 use Rattle.brl_lines.specs.Views.{line_view}
 use Rattle.brl_table.specs.ItemLimits.{IsItemWithinLimits}
-use Rattle.brl_table.specs.Reading.{first_pass_fault, files_of, item_in, PassesBefore}
+use Rattle.brl_table.specs.Faults.{first_pass_fault, PassesBefore}
+use Rattle.brl_table.specs.Reading.{files_of, item_in}
 use Rattle.brl_table.specs.Building.{AreWithinLimits, Represents}
 use Rattle.brl_table.proofs.builder.TableBuilder.add_all.Given as goal
 

@@ -1,5 +1,6 @@
 use Rattle.std.proofs.Common.{◌∙◌, ap, sym, arith}
-use Rattle.brl_table.specs.Reading.{definitions, repeats_indicator}
+use Rattle.brl_table.specs.Faults.{repeats_indicator}
+use Rattle.brl_table.specs.Reading.{definitions}
 use Rattle.brl_rules.specs.Signs.{with_cells}
 use Rattle.brl_table.proofs.ItemSteps.{represents-indicates, no_cells-yet}
 use Rattle.brl_table.proofs.DefinitionSteps.{one-more}
