@@ -4,7 +4,6 @@
  *   FAIL_ALLOCATION=N  the N-th allocation is refused, counted from 1
  *   FAIL_MARKED=1      allocations count only between two opens of the path /brl/mark
  *   FAIL_READ=N        reads of the N-th file that the program opens fail, counted from 1
- *   FAIL_READS=N       the same of this file and all after it
  *   FAIL_INPUT=N       standard input has N bytes, and then fails
  *   FAIL_OUTPUT=N      standard output takes N bytes, and then fails
  *   FAIL_FILE=N        other files take N bytes, and then fail
@@ -32,7 +31,7 @@
 void *__libc_malloc(size_t);
 void *__libc_realloc(void *, size_t);
 
-static long refuse, is_marked, is_counting = 1, fail_read, fail_reads, fail_rename, fail_create, fail_folders;
+static long refuse, is_marked, is_counting = 1, fail_read, fail_rename, fail_create, fail_folders;
 static long input_room, output_room, file_room, life;
 static long allocations, refused, opened, opened_before, created, failed;
 static int failing_file = -1;
@@ -49,7 +48,6 @@ __attribute__((constructor)) static void begin(void)
     is_marked = number("FAIL_MARKED", 0);
     is_counting = !is_marked;
     fail_read = number("FAIL_READ", 0);
-    fail_reads = number("FAIL_READS", LONG_MAX);
     input_room = number("FAIL_INPUT", LONG_MAX);
     output_room = number("FAIL_OUTPUT", LONG_MAX);
     file_room = number("FAIL_FILE", LONG_MAX);
@@ -101,7 +99,7 @@ int open(const char *path, int flags, ...)
             return (int)fail();
     }
     file = (int)syscall(SYS_openat, AT_FDCWD, path, flags, mode);
-    if (++opened == fail_read || opened >= fail_reads)
+    if (++opened == fail_read)
         failing_file = file;
     return file;
 }

@@ -29,7 +29,7 @@ DEFINING = [*CLASSES, "uplow"]
 LISTS = ["numericmodechars", "numericnocontchars"]
 PROFILE = {*DEFINING, *PLACES, *SIGNS, *LISTS, "noback", "nofor", "display", "include"}
 
-MOST_FILE_BYTES, MOST_LINE_BYTES, MOST_DEPTH, MOST_PATHS = 16_777_216, 2048, 16, 1025
+MOST_FILE_BYTES, MOST_LINE_BYTES, MOST_DEPTH, MOST_INCLUDES = 16_777_216, 2048, 16, 1024
 MOST_BEFORE_BYTES = 1024
 
 # The file that is made for a letter sign; and the escapes of one mark.
@@ -337,32 +337,25 @@ class Files:
         self.folders = folders
         self.files: list[File] = []
         self.lines: list[Line] = []
-        # the paths that were looked for
-        self.asked: set[str] = set()
-        path = self.find(root, root, "")
+        path = self.find(root, root)
         self.folder = path[: path.rfind("/") + 1]
         try:
-            self.walk(path, root.rpartition("/")[2], "", 1)
+            file = read_file(path, root.rpartition("/")[2], "", 1)
         except FileNotFoundError:
             raise Stop(f"L1 NotFound {root}") from None
+        self.walk(file)
 
-    def find(self, usual: str, name: str, place: str) -> str:
+    def find(self, usual: str, name: str) -> str:
         """The path where a file is found; its usual one, where there is none."""
-        for path in [usual, *(in_folder(it, name) for it in self.folders if not name.startswith("/"))]:
-            if path not in self.asked and len(self.asked) == MOST_PATHS * (1 + len(self.folders)):
-                raise Stop(f"L8 TooManyIncludes {path}{place}")
-            self.asked.add(path)
-            if is_there(path):
-                return path
-        return usual
+        paths = [usual, *(in_folder(it, name) for it in self.folders if not name.startswith("/"))]
+        return next(filter(is_there, paths), usual)
 
-    def walk(self, path: str, name: str, place: str, depth: int) -> None:
-        """Reads a file, and those that it includes; the include lines that aren't followed get their comments."""
-        file = read_file(path, name, place, depth)
+    def walk(self, file: File) -> None:
+        """Goes through a file, and those that it includes; the include lines that aren't followed get their comments."""
         self.files.append(file)
         for number, line in enumerate(file.lines, 1):
             if line.words[:1] == ["include"] and len(line.words) > 1:
-                line.fault = self.include(line, f"{path}:{number}", depth)
+                line.fault = self.include(line, f"{file.path}:{number}", file.depth)
                 line.is_followed = not line.fault
             elif line.does_something():
                 self.lines.append(line)
@@ -374,15 +367,18 @@ class Files:
             return f"dictionary {name}"
         if set(name.split("/")) & {"", ".", ".."}:
             raise Stop(f"error: include {name} at {place} leads out of the table's folder")
-        path = self.find(self.folder + name, name, f" at {place}")
+        if len(self.files) > MOST_INCLUDES:
+            raise Stop(f"L8 TooManyIncludes {self.folder + name} at {place}")
+        path = self.find(self.folder + name, name)
         if path in [it.path for it in self.files]:
             return f"repeated {name}"
-        if depth == MOST_DEPTH and is_there(path):
-            raise Stop(f"L5 TooDeep {path} at {place}")
         try:
-            self.walk(path, name, f" at {place}", depth + 1)
+            file = read_file(path, name, f" at {place}", depth + 1)
         except FileNotFoundError:
             return f"L1 NotFound {name}"
+        if depth == MOST_DEPTH:
+            raise Stop(f"L5 TooDeep {path} at {place}")
+        self.walk(file)
         return ""
 
 
@@ -502,7 +498,7 @@ def may_make(files: Files, line: Line) -> bool:
     """Whether a line may include a file that is made."""
     path = files.folder + MADE
     (depth,) = (it.depth for it in files.files if any(line is other for other in it.lines))
-    has_room = path in files.asked or len(files.asked) < MOST_PATHS * (1 + len(files.folders))
+    has_room = len(files.files) <= MOST_INCLUDES
     is_taken = any(MADE == it.name or path == it.path for it in files.files)
     return not is_taken and depth < MOST_DEPTH and has_room
 
@@ -778,6 +774,10 @@ CASES = [
          "file u.ctb: 1 of 2 lines are read\nfile parts/v.ctb: 0 of 2 lines are read\n"),
     Case("sixteen files deep", chain(16), chain(16), "1 of 1 lines are kept\n"),
     faulty("seventeen files deep", chain(17), "L5 TooDeep c17 at c16:1\n"),
+    faulty("a file that is too deep and isn't UTF-8", {**chain(17), "c17": b"\xff"}, "L3 NotUtf8 c17 at c16:1\n"),
+    Case("a file that would be too deep and isn't there", {**chain(16), "c16": "letter a 1\ninclude c17\n"},
+         {**chain(16), "c16": "letter a 1\n# L1 NotFound c17: include c17\n"},
+         "1 of 2 lines are kept\nopcode include: 1\nfile c16: 1 of 2 lines are read\n"),
     faulty("an include by its whole path", {"t.ctb": "\ninclude /u.ctb\n"}, "error: include /u.ctb at t.ctb:2 leads out of the table's folder\n"),
     *(faulty(f"an include of {name}", {"t.ctb": f"include {name}\n"}, f"error: include {name} at t.ctb:1 leads out of the table's folder\n")
       for name in ("../t.ctb", "a/../b", "./b", "a/./b", "a//b", "a/", "..", ".")),
@@ -793,8 +793,10 @@ CASES = [
          {"t.ctb": includes(range(1023)) + "# L1 NotFound 1023: include 1023\n# repeated 7: include 7\n# L1 NotFound 1023: include 1023\n",
           **empty(range(1023))},
          "0 of 3 lines are kept\nopcode include: 3\nfile t.ctb: 0 of 3 lines are read\n"),
-    faulty("1,025 includes, one of a file that isn't there", {"t.ctb": includes(range(1025)), **empty(range(1, 1025))},
-           "L8 TooManyIncludes 1024 at t.ctb:1025\n"),
+    Case("1,025 includes, one of a file that isn't there", {"t.ctb": includes(range(1025)), **empty(range(1, 1025))},
+         {"t.ctb": "# L1 NotFound 0: include 0\n" + includes(range(1, 1025)), **empty(range(1, 1025))},
+         "0 of 1 lines are kept\nopcode include: 1\nfile t.ctb: 0 of 1 lines are read\n"),
+    faulty("1,024 includes, and one of them again", {"t.ctb": includes([*range(1024), 7]), **empty(range(1024))}, "L8 TooManyIncludes 7 at t.ctb:1025\n"),
     one("lines that could be rewritten", "letter a 1\nnoback sign \\x00a0 7\n",
         "letter a 1\n# B1 OutsideProfile sign: noback sign \\x00a0 7\n",
         "1 of 2 lines are kept\nopcode noback sign: 1 (not in the profile)\nfile t.ctb: 1 of 2 lines are read\n"),

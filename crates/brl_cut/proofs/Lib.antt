@@ -10,6 +10,5 @@ pub mod Limits
 pub mod PlaceLemmas
 pub mod RewriteLemmas
 pub mod RoundLemmas
-pub mod SkipLemmas
 pub mod Unedited
 pub mod WholeLines

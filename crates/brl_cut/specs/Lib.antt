@@ -12,4 +12,3 @@ pub mod RewritingViews
 pub mod Rounds
 pub mod Settling
 pub mod Signs
-pub mod Skipping

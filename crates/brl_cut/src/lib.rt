@@ -7,8 +7,7 @@
 //! `putting` what is put before a line), `rounds` surveys files until no line is faulty, `starting`
 //! does both, `includes` has include lines that are left out, `placing` the paths where files are
 //! written, and `cutting` has the whole, which `outcome` is, and marks lines of it; `alike`
-//! compares the files with marks. `load_without_dictionaries` loads a table without its hyphenation
-//! dictionaries.
+//! compares the files with marks.
 //!
 //! Room 1, text and tables (docs/dev/ARCHITECTURE.md). The definitions begin in `specs/Cuts.antt`.
 #![tactic(auto)]
@@ -27,7 +26,6 @@ mod putting;
 mod rewriting;
 mod rounds;
 mod signs;
-mod skipping;
 mod starting;
 mod text;
 
@@ -35,4 +33,3 @@ pub use brl_table::Cut;
 pub use cutting::{CutFault, cut_table, mark_lines};
 pub use outcome::CutTable;
 pub use placing::written_root;
-pub use skipping::{WithoutDictionaries, load_without_dictionaries};

@@ -52,18 +52,6 @@ paths-left paths i path within is =
     ap (map string_bytes) (drop-cons paths i path within ∙ ap (λ (x : String Global). x ∷ drop (suc i) paths) (sym is))
     ∙ ap (λ n. string_bytes path ∷ map string_bytes (drop n paths)) (sym (add-one i))
 
--- by what is known of paths
-module _ (answer : List ℕ → Option FileAnswer) (paths : List (String Global)) (other : List ℕ) (i : ℕ) (so_far : first_there answer (map string_bytes paths) other ≡ first_there answer (map string_bytes (drop i paths)) other) where
-  module _ (path : String Global) (within : i < length paths) (is : path ≡ get_or paths i path) where
-    pub known-next : (missing : Bool) → is_missing (answer (string_bytes path)) ≡ missing
-        → first_there answer (map string_bytes paths) other ≡ cond missing (first_there answer (map string_bytes (drop (i + 1) paths)) other) (string_bytes path)
-    known-next missing e =
-        so_far ∙ ap (λ (ps : List (List ℕ)). first_there answer ps other) (paths-left paths i path within is)
-        ∙ ap (λ b. cond b (first_there answer (map string_bytes (drop (i + 1) paths)) other) (string_bytes path)) e
-
-  pub known-none : length paths ≤ i → first_there answer (map string_bytes paths) other ≡ other
-  known-none past = so_far ∙ ap (λ (left : List (String Global)). first_there answer (map string_bytes left) other) (drop_all i paths past)
-
 -- a file that is refused for another reason is there
 pub there-by-text : (path : List ℕ) (place : Option LocationView) (a : Option FileAnswer) (e : Refusal) → text_of path place a ≡ Err e → e.kind ≢ kinds.NotFound → is_missing a ≡ false
 there-by-text path place None e is other = refl

@@ -6,11 +6,10 @@ pub mod ExpandLemmas
 pub mod FileLemmas
 pub mod FindingLemmas
 pub mod FolderLemmas
-pub mod KnownLemmas
 pub mod LineLemmas
-pub mod LoadLemmas
 pub mod LoopLemmas
 pub mod MemoryLemmas
+pub mod MissingLemmas
 pub mod MoreLemmas
 pub mod NumberLemmas
 pub mod PieceLemmas
@@ -21,5 +20,5 @@ pub mod SpellingLemmas
 pub mod TextLemmas
 pub mod TokenLemmas
 pub mod VisibleLemmas
-pub mod WayLemmas
+pub mod WalkLemmas
 pub mod Ordered

@@ -1,15 +1,17 @@
 -- The rows of a file, added one after another.
-use Rattle.std.proofs.Common.{◌≡◌, ℕ, ◌+◌, ◌-◌, ◌<◌, ◌≤◌, List, [], ◌∷◌, ◌++◌, length, ap, sym, ◌∙◌, subst, arith, append-nil, Option, Result, Err}
+use Rattle.std.proofs.Common.{◌≡◌, ℕ, ◌+◌, ◌-◌, ◌<◌, ◌≤◌, List, [], ◌∷◌, ◌++◌, length, ap, sym, ◌∙◌, subst, arith, append-nil, None, Option, Result, Err, Ok, Some}
 use Rattle.std.proofs.lemmas.List.Concat.{flat_map-append}
 use Rattle.std.specs.Global.{Vec}
 use Rattle.std.specs.Prelude.{string_bytes}
 use Rattle.std.specs.Str.{IsCharBoundary}
 use Rattle.brl_failure.specs.declared.failure.Failure.{Failure}
+use Rattle.brl_failure.specs.Failure.{◌>>=◌}
 use Rattle.brl_lines.specs.Answer.{FileAnswer, FileAnswers}
-use Rattle.brl_lines.specs.Files.{Files, chain_of, lines_at, span_lines, text_at}
-use Rattle.brl_lines.specs.Lines.{Expanded, Follow, LocationView, Refusal, expanded, follow, location_of}
+use Rattle.brl_lines.specs.Files.{Files, lines_at, span_lines, text_at}
+use Rattle.brl_lines.specs.Gathered.{walk_view, walk_with}
+use Rattle.brl_lines.specs.Lines.{LocationView, Refusal, Take, Walk, expanded, location_of}
 use Rattle.brl_lines.specs.Rows.{piece}
-use Rattle.brl_lines.specs.Steps.{AreSpans, Enters, Expands, Extends, Fails, Grows, IsKindOf, IsOpen, IsReady, IsRow, IsSpan, after, lines_from, lines_of_file, lines_of_include}
+use Rattle.brl_lines.specs.Steps.{AreSpans, Expands, Extends, Fails, FailsFrom, Grows, IsKindOf, IsOpen, IsReady, IsRow, IsSpan, Takes, Wants, lines_from, take_in, walk_if, walk_in}
 use Rattle.brl_lines.specs.Tokens.{LineView}
 use Rattle.brl_lines.specs.declared.expand.Expansion.{Expansion}
 use Rattle.brl_lines.specs.declared.fault.LoadFault.{LoadFault}
@@ -19,7 +21,8 @@ use Rattle.brl_lines.specs.declared.row.FileRow.{FileRow}
 use Rattle.brl_lines.specs.declared.row.RowKind.{RowKind}
 use Rattle.brl_lines.specs.declared.row.RowKind.TheVariants.{Include, Line, Nothing}
 use Rattle.brl_lines.specs.declared.span.LineSpan.{LineSpan}
-use Rattle.brl_lines.proofs.ExpandLemmas.{after-err, fails-later, fails-more, row-include, row-line, row-nothing, row-refused, rows-end}
+use Rattle.brl_lines.specs.declared.way.Policy.{Policy}
+use Rattle.brl_lines.proofs.ExpandLemmas.{fails-later, fails-more, row-include, row-line, row-nothing}
 use Rattle.brl_lines.proofs.FileLemmas.{extends-older, grows-none, grows-twice, lines_at-grows, open-grows, spans-grow, text_at-grows, text_at-small, text_at-starts}
 use Rattle.brl_lines.proofs.LineLemmas.{lines_from-end, lines_from-whole}
 
@@ -38,7 +41,7 @@ place-is line file number same f n s = ap (λ (x : List ℕ). the_place x line.l
     the_place : List ℕ → ℕ → LocationView
     the_place x k = record { file = x; line = k }
 
-module _ (gives : FileAnswers) (root : List ℕ) (file : OpenFile) (old : Expansion) where
+module _ (gives : FileAnswers) (policy : Policy) (root : List ℕ) (file : OpenFile) (old : Expansion) where
   abbrev text : List ℕ
   text = text_at old.files.entries file.index
 
@@ -46,11 +49,11 @@ module _ (gives : FileAnswers) (root : List ℕ) (file : OpenFile) (old : Expans
   abbrev left : ℕ → ℕ → List LineView
   left number at = lines_from (string_bytes file.path) number (piece text at (length text))
 
-  abbrev follows : (List ℕ → Option FileAnswer) → Follow
-  follows answer = follow file.depth_left gives.folders answer root (chain_of file)
+  abbrev takes : (List ℕ → Option FileAnswer) → Take
+  takes answer = take_in policy gives.folders root file answer
 
-  abbrev whole : (List ℕ → Option FileAnswer) → Result Expanded Refusal
-  whole answer = after (lines_at old.files.entries old.spans.items) (lines_of_file gives.folders root file old answer)
+  abbrev whole : (List ℕ → Option FileAnswer) → Result Walk Refusal
+  whole answer = walk_in policy gives.folders root file text answer (walk_view old)
 
   -- the rows up to a place were added
   pub record Added (now : Expansion) (number at : ℕ) : Type 0 where
@@ -59,8 +62,7 @@ module _ (gives : FileAnswers) (root : List ℕ) (file : OpenFile) (old : Expans
     pub few : number ≤ at + 1
     pub grows : Grows gives old.files.entries now.files.entries
     pub spans : AreSpans now.files.entries now.spans.items
-    pub so_far : (answer : List ℕ → Option FileAnswer) → Extends now.files.entries answer
-        → after (lines_at now.files.entries now.spans.items) (expanded (follows answer) (left number at) now.include_count) ≡ whole answer
+    pub so_far : (answer : List ℕ → Option FileAnswer) → Extends now.files.entries answer → expanded (takes answer) (left number at) (walk_view now) ≡ whole answer
 
   module _ (ready : IsReady gives old file) where
     -- none yet
@@ -71,8 +73,7 @@ module _ (gives : FileAnswers) (root : List ℕ) (file : OpenFile) (old : Expans
       few = omega arith;
       grows = grows-none gives old.files.entries ready.given;
       spans = ready.spans;
-      so_far = λ answer extends.
-          ap (λ (lines : List LineView). after (lines_at old.files.entries old.spans.items) (expanded (follows answer) lines old.include_count)) (lines_from-whole (string_bytes file.path) text);
+      so_far = λ answer extends. ap (λ (lines : List LineView). expanded (takes answer) lines (walk_view old)) (lines_from-whole (string_bytes file.path) text);
     }
 
     module _ (now : Expansion) (number at : ℕ) (added : Added now number at) where
@@ -94,13 +95,13 @@ module _ (gives : FileAnswers) (root : List ℕ) (file : OpenFile) (old : Expans
       number-small = let small = text_at-small old.files.entries file.index in omega (arith, small, added.within, added.few)
 
       -- all of them
-      pub added-all : at ≡ length (text_at now.files.entries file.index) → Expands gives old now (lines_of_file gives.folders root file old)
+      pub added-all : at ≡ length (text_at now.files.entries file.index) → Expands gives old now (walk_in policy gives.folders root file text)
       added-all ends = record {
         grows = added.grows;
         spans = added.spans;
-        adds = λ answer extends.
-            rows-end (follows answer) (lines_at now.files.entries now.spans.items) (left number at) now.include_count (whole answer)
-            (lines_from-end (string_bytes file.path) number text at (ends ∙ ap length same_text)) (added.so_far answer extends);
+        goes = λ answer extends.
+            sym (added.so_far answer extends)
+            ∙ ap (λ (lines : List LineView). expanded (takes answer) lines (walk_view now)) (lines_from-end (string_bytes file.path) number text at (ends ∙ ap length same_text));
       }
 
       -- one row more
@@ -135,13 +136,12 @@ module _ (gives : FileAnswers) (root : List ℕ) (file : OpenFile) (old : Expans
           grows = added.grows;
           spans = added.spans;
           so_far = λ answer extends.
-              row-nothing (follows answer) (lines_at now.files.entries now.spans.items) now.include_count (left number at) (span_lines now.files.entries row.span) (left (number + 1) row.next) (whole answer) cut
-              (added.so_far answer extends) (kind_is Nothing e);
+              row-nothing (takes answer) (walk_view now) (left number at) (span_lines now.files.entries row.span) (left (number + 1) row.next) (whole answer) cut (added.so_far answer extends) (kind_is Nothing e);
         }
 
         -- it is a line
         pub added-line : row.kind ≡ Line → (spans : Vec LineSpan) → spans.items ≡ now.spans.items ++ row.span ∷ []
-            → Added (record { files = now.files; spans = spans; include_count = now.include_count }) (number + 1) row.next
+            → Added (record { files = now.files; spans = spans; way = now.way }) (number + 1) row.next
         added-line e spans pushed =
             let kind = kind_is Line e in
             record {
@@ -151,65 +151,89 @@ module _ (gives : FileAnswers) (root : List ℕ) (file : OpenFile) (old : Expans
               grows = added.grows;
               spans = subst (AreSpans now.files.entries) (sym pushed) (spans-push now.files.entries now.spans.items row.span added.spans is.span);
               so_far = λ answer extends.
-                  ap (λ (lines : List LineView). after lines (expanded (follows answer) (left (number + 1) row.next) now.include_count))
+                  ap (λ (lines : List LineView). expanded (takes answer) (left (number + 1) row.next) (walk_with lines now.way))
                   (ap (lines_at now.files.entries) pushed ∙ lines_at-push now.files.entries now.spans.items row.span)
-                  ∙ row-line (follows answer) (lines_at now.files.entries now.spans.items) now.include_count (left number at) (span_lines now.files.entries row.span) (left (number + 1) row.next) (whole answer) cut
-                  (added.so_far answer extends) kind.0 kind.1 kind.2;
+                  ∙ row-line (takes answer) (walk_view now) (left number at) (span_lines now.files.entries row.span) (left (number + 1) row.next) (whole answer) cut (added.so_far answer extends) kind.0 kind.1 kind.2;
             }
 
-        -- it includes a file
+        -- it is an include line
         module _ (include : IncludeLine) (e : row.kind ≡ Include include) where
           abbrev place : LocationView
           place = record { file = string_bytes file.path; line = include.line }
 
-          refused : (answer : List ℕ → Option FileAnswer) (d : Refusal) → Extends now.files.entries answer → lines_of_include gives.folders root file include now answer ≡ Err d → lines_of_file gives.folders root file old answer ≡ Err d
-          refused answer d extends h =
+          abbrev wants : Wants
+          wants answer = takes answer place (string_bytes include.name)
+
+          rest_is : (answer : List ℕ → Option FileAnswer) → Extends now.files.entries answer → (r : Result Walk Refusal) → wants answer (walk_view now) ≡ r
+              → (r >>= λ next. expanded (takes answer) (left (number + 1) row.next) next) ≡ whole answer
+          rest_is answer extends r h =
               let kind = kind_is (Include include) e in
-              after-err (lines_at old.files.entries old.spans.items) (lines_of_file gives.folders root file old answer) d
-              (row-refused (follows answer) (lines_at now.files.entries now.spans.items) now.include_count (left number at) (span_lines now.files.entries row.span) (left (number + 1) row.next) (whole answer) cut
-              (added.so_far answer extends) kind.0 kind.1 (string_bytes include.name) kind.2 place (place-is kind.0 (string_bytes file.path) number include.line kind.3 kind.4 kind.5) d h)
+              row-include (takes answer) (walk_view now) (left number at) (span_lines now.files.entries row.span) (left (number + 1) row.next) (whole answer) cut (added.so_far answer extends) kind.0 kind.1
+              (string_bytes include.name) kind.2 place (place-is kind.0 (string_bytes file.path) number include.line kind.3 kind.4 kind.5) r h
 
-          -- that file is refused
-          pub refused-include : (failure : Failure LoadFault) → Fails gives now.files.entries (lines_of_include gives.folders root file include now) failure → Fails gives old.files.entries (lines_of_file gives.folders root file old) failure
+          -- its file is refused
+          pub refused-include : (failure : Failure LoadFault) → FailsFrom gives now wants failure → Fails gives old.files.entries whole failure
           refused-include failure h =
-              fails-later gives old.files.entries now.files.entries added.grows (lines_of_file gives.folders root file old) failure
-              (fails-more gives now.files.entries (lines_of_include gives.folders root file include now) (lines_of_file gives.folders root file old) failure refused h)
+              fails-later gives old.files.entries now.files.entries added.grows whole failure
+              (fails-more gives now.files.entries (λ answer. wants answer (walk_view now)) whole failure (λ answer d extends no. sym (rest_is answer extends (Err d) no)) (h (lines_at now.files.entries now.spans.items)))
 
-          module _ (entered : Expansion) (inner : OpenFile) (enters : Enters gives now entered root file include inner) where
+          module _ (entered : Expansion) (inner : Option OpenFile) (takes_on : Takes gives policy root file now entered wants inner) where
             both : Grows gives old.files.entries entered.files.entries
-            both = grows-twice gives old.files.entries now.files.entries entered.files.entries added.grows enters.grows
+            both = grows-twice gives old.files.entries now.files.entries entered.files.entries added.grows takes_on.grows
 
             older : (answer : List ℕ → Option FileAnswer) → Extends entered.files.entries answer → Extends now.files.entries answer
-            older = extends-older gives now.files.entries entered.files.entries enters.grows
+            older = extends-older gives now.files.entries entered.files.entries takes_on.grows
+
+            spans_are : entered.spans.items ≡ now.spans.items
+            spans_are = ap (λ (spans : Vec LineSpan). spans.items) takes_on.spans
 
             pub inner-spans : AreSpans entered.files.entries entered.spans.items
-            inner-spans = subst (AreSpans entered.files.entries) (sym enters.spans) (spans-grow gives now.files.entries entered.files.entries enters.grows now.spans.items added.spans)
+            inner-spans = subst (AreSpans entered.files.entries) (sym spans_are) (spans-grow gives now.files.entries entered.files.entries takes_on.grows now.spans.items added.spans)
 
-            -- or its lines are
-            pub refused-inner : (failure : Failure LoadFault) → Fails gives entered.files.entries (lines_of_file gives.folders root inner entered) failure → Fails gives old.files.entries (lines_of_file gives.folders root file old) failure
-            refused-inner failure h =
-                fails-later gives old.files.entries entered.files.entries both (lines_of_file gives.folders root file old) failure
-                (fails-more gives entered.files.entries (lines_of_file gives.folders root inner entered) (lines_of_file gives.folders root file old) failure
-                (λ answer d extends no. refused answer d (older answer extends) (enters.follows answer extends ∙ no)) h)
+            -- the walk goes on from the lines so far
+            goes_on : (answer : List ℕ → Option FileAnswer) → Extends entered.files.entries answer → wants answer (walk_view now) ≡ walk_if policy gives.folders root entered.files.entries inner answer (walk_view entered)
+            goes_on answer extends =
+                let lines : lines_at entered.files.entries entered.spans.items ≡ lines_at now.files.entries now.spans.items =
+                ap (lines_at entered.files.entries) spans_are ∙ lines_at-grows gives now.files.entries entered.files.entries takes_on.grows now.spans.items added.spans in
+                takes_on.goes answer extends (lines_at now.files.entries now.spans.items)
+                ∙ ap (λ (ls : List LineView). walk_if policy gives.folders root entered.files.entries inner answer (walk_with ls entered.way)) (sym lines)
 
-            -- its lines were added
-            pub added-include : (new : Expansion) → Expands gives entered new (lines_of_file gives.folders root inner entered) → Added new (number + 1) row.next
-            added-include new expands =
-                let kind = kind_is (Include include) e in
-                let lines : lines_at now.files.entries now.spans.items ≡ lines_at entered.files.entries entered.spans.items =
-                sym (ap (lines_at entered.files.entries) enters.spans ∙ lines_at-grows gives now.files.entries entered.files.entries enters.grows now.spans.items added.spans) in
-                record {
-                  boundary = row-boundary;
-                  within = row-within;
-                  few = row-few;
-                  grows = grows-twice gives old.files.entries entered.files.entries new.files.entries both expands.grows;
-                  spans = expands.spans;
-                  so_far = λ answer extends.
-                      (let known = extends-older gives entered.files.entries new.files.entries expands.grows answer extends in
-                      row-include (follows answer) (lines_at now.files.entries now.spans.items) now.include_count (left number at) (span_lines now.files.entries row.span) (left (number + 1) row.next) (whole answer) cut
-                      (added.so_far answer (older answer known)) kind.0 kind.1 (string_bytes include.name) kind.2 place (place-is kind.0 (string_bytes file.path) number include.line kind.3 kind.4 kind.5)
-                      (lines_at new.files.entries new.spans.items) new.include_count
-                      (ap (after (lines_at now.files.entries now.spans.items)) (enters.follows answer known)
-                      ∙ ap (λ (ls : List LineView). after ls (lines_of_file gives.folders root inner entered answer)) lines
-                      ∙ expands.adds answer extends));
-                }
+            -- past the line
+            pub added-past : inner ≡ None → Added entered (number + 1) row.next
+            added-past none = record {
+              boundary = row-boundary;
+              within = row-within;
+              few = row-few;
+              grows = both;
+              spans = inner-spans;
+              so_far = λ answer extends.
+                  rest_is answer (older answer extends) (Ok (walk_view entered))
+                  (goes_on answer extends ∙ ap (λ (i : Option OpenFile). walk_if policy gives.folders root entered.files.entries i answer (walk_view entered)) none);
+            }
+
+            module _ (file_in : OpenFile) (some : inner ≡ Some file_in) where
+              abbrev inside : (List ℕ → Option FileAnswer) → Walk → Result Walk Refusal
+              inside = walk_in policy gives.folders root file_in (text_at entered.files.entries file_in.index)
+
+              goes_in : (answer : List ℕ → Option FileAnswer) → Extends entered.files.entries answer → wants answer (walk_view now) ≡ inside answer (walk_view entered)
+              goes_in answer extends = goes_on answer extends ∙ ap (λ (i : Option OpenFile). walk_if policy gives.folders root entered.files.entries i answer (walk_view entered)) some
+
+              -- the lines of its file are refused
+              pub refused-inner : (failure : Failure LoadFault) → Fails gives entered.files.entries (λ answer. inside answer (walk_view entered)) failure → Fails gives old.files.entries whole failure
+              refused-inner failure h =
+                  fails-later gives old.files.entries entered.files.entries both whole failure
+                  (fails-more gives entered.files.entries (λ answer. inside answer (walk_view entered)) whole failure
+                  (λ answer d extends no. sym (rest_is answer (older answer extends) (Err d) (goes_in answer extends ∙ no))) h)
+
+              -- or were added
+              pub added-inner : (new : Expansion) → Expands gives entered new inside → Added new (number + 1) row.next
+              added-inner new expands = record {
+                boundary = row-boundary;
+                within = row-within;
+                few = row-few;
+                grows = grows-twice gives old.files.entries entered.files.entries new.files.entries both expands.grows;
+                spans = expands.spans;
+                so_far = λ answer extends.
+                    (let known = extends-older gives entered.files.entries new.files.entries expands.grows answer extends in
+                    rest_is answer (older answer known) (Ok (walk_view new)) (goes_in answer known ∙ expands.goes answer extends));
+              }

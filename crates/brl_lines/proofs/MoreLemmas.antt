@@ -1,12 +1,13 @@
 -- What more answers change: nothing, unless a file was asked for that has no answer among the
 -- fewer. Where that file can't be read, neither can the whole.
-use Rattle.std.proofs.Common.{◌≡◌, ℕ, zero, suc, ◌+◌, ◌⊎◌, inl, inr, Bool, true, false, cond, List, [], ◌∷◌, ◌++◌, refl, ap, sym, ◌∙◌, subst, Option, Some, None, Result, Ok, Err}
+use Rattle.std.proofs.Common.{◌≡◌, ℕ, zero, suc, ◌⊎◌, inl, inr, Bool, true, false, cond, List, [], ◌∷◌, refl, ap, sym, ◌∙◌, subst, subst₂, Option, Some, None, Result, Ok, Err}
 use Rattle.brl_failure.specs.Failure.{◌>>=◌}
 use Rattle.brl_lines.specs.Answer.{FileAnswer, is_missing}
-use Rattle.brl_lines.specs.Includes.{first_there, found, included, name_of, paths_in}
-use Rattle.brl_lines.specs.Lines.{Expanded, Follow, LocationView, Refusal, apart, entered, expanded, expanded_as, few, follow, lines_from_root, lines_over, location_of, refusal, replaced, text_of}
+use Rattle.brl_lines.specs.Includes.{first_there, found, included, last_part, name_of, paths_in}
+use Rattle.brl_lines.specs.Lines.{Follow, LocationView, Refusal, Take, Walk, apart, expanded, few, follow, lines_over, loaded_at, location_of, no_way, on_way, refusal, replaced, taken, text_of, with_file}
 use Rattle.brl_lines.specs.Tokens.{LineView, lines_in}
 use Rattle.brl_lines.specs.declared.fault.LoadFaultKind.TheVariants as kinds
+use Rattle.brl_lines.specs.declared.way.Policy.TheVariants as policies
 use Rattle.brl_lines.proofs.FindingLemmas.{there-by-text}
 
 -- the two are one refusal
@@ -49,21 +50,15 @@ module _ (f g : List ℕ → Option FileAnswer) (extends : (path : List ℕ) (an
       by_answer None unknown = inr (record { path = path; place = place; asked = refl; refused = λ no. no })
       by_answer (Some a) known = inl (ap (text_of path place) (extends path a known))
 
-  module _ (h k : Follow) (stays : (place : LocationView) (name : List ℕ) (n : ℕ) → StaysOrAsks (h place name n) (k place name n)) where
-    stays-replaced : (line : LineView) (name : Option (List ℕ)) (n : ℕ) → StaysOrAsks (replaced h line name n) (replaced k line name n)
-    stays-replaced line None n = inl refl
-    stays-replaced line (Some name) n = stays (location_of line) name n
+  module _ (h k : Take) (stays : (place : LocationView) (name : List ℕ) (walk : Walk) → StaysOrAsks (h place name walk) (k place name walk)) where
+    stays-replaced : (line : LineView) (name : Option (List ℕ)) (walk : Walk) → StaysOrAsks (replaced h line name walk) (replaced k line name walk)
+    stays-replaced line None walk = inl refl
+    stays-replaced line (Some name) walk = stays (location_of line) name walk
 
-    stays-expanded : (lines : List LineView) (n : ℕ) → StaysOrAsks (expanded h lines n) (expanded k lines n)
-    stays-expanded [] n = inl refl
-    stays-expanded (line ∷ lines) n =
-        stays-bind (replaced h line (name_of line) n) (replaced k line (name_of line) n)
-        (λ here. expanded h lines here.includes >>= λ others. Ok (expanded_as (here.lines ++ others.lines) others.includes))
-        (λ here. expanded k lines here.includes >>= λ others. Ok (expanded_as (here.lines ++ others.lines) others.includes))
-        (stays-replaced line (name_of line) n)
-        (λ here. stays-bind (expanded h lines here.includes) (expanded k lines here.includes)
-        (λ others. Ok (expanded_as (here.lines ++ others.lines) others.includes)) (λ others. Ok (expanded_as (here.lines ++ others.lines) others.includes))
-        (stays-expanded lines here.includes) (λ others. inl refl))
+    stays-expanded : (lines : List LineView) (walk : Walk) → StaysOrAsks (expanded h lines walk) (expanded k lines walk)
+    stays-expanded [] walk = inl refl
+    stays-expanded (line ∷ lines) walk =
+        stays-bind (replaced h line (name_of line) walk) (replaced k line (name_of line) walk) (expanded h lines) (expanded k lines) (stays-replaced line (name_of line) walk) (stays-expanded lines)
 
   -- the path that is found stays, or a path was asked for that has no answer in f
   pub record FindsOrAsks (before after : List ℕ) : Type 0 where
@@ -113,45 +108,81 @@ module _ (f g : List ℕ → Option FileAnswer) (extends : (path : List ℕ) (an
         ]
 
   module _ (folders : List (List ℕ)) where
-    stays-follow : (depth : ℕ) (root : List ℕ) (chain : List (List ℕ)) (place : LocationView) (name : List ℕ) (n : ℕ) → StaysOrAsks (follow depth folders f root chain place name n) (follow depth folders g root chain place name n)
-    unfolding follow
-    stays-follow zero root chain place name n = inl refl
-    stays-follow (suc depth) root chain place name n =
-        let usual = included root name in
-        let h : List ℕ → Result Expanded Refusal = λ path. entered (follow depth folders f root) f chain place path n in
-        let k : List ℕ → Result Expanded Refusal = λ path. entered (follow depth folders g root) g chain place path n in
-        stays-bind (few usual place n) (few usual place n) (λ _. h (found folders f usual name)) (λ _. k (found folders g usual name))
-        (inl refl)
-        (λ _. stays-first (Some place) (usual ∷ paths_in folders name) usual h k
-        (λ path unknown. ap (λ (a : Option FileAnswer). text_of path (Some place) a >>= λ text. (apart path place chain >>= λ _. expanded (follow depth folders f root (path ∷ chain)) (lines_in path text) (n + 1))) unknown)
-        (λ path no. ap (λ (r : Result (List ℕ) Refusal). r >>= λ text. (apart path place chain >>= λ _. expanded (follow depth folders g root (path ∷ chain)) (lines_in path text) (n + 1))) no)
-        (λ path. stays-bind (text_of path (Some place) (f path)) (text_of path (Some place) (g path))
-        (λ text. apart path place chain >>= λ _. expanded (follow depth folders f root (path ∷ chain)) (lines_in path text) (n + 1))
-        (λ text. apart path place chain >>= λ _. expanded (follow depth folders g root (path ∷ chain)) (lines_in path text) (n + 1))
-        (stays-text path (Some place))
-        (λ text. stays-bind (apart path place chain) (apart path place chain)
-        (λ _. expanded (follow depth folders f root (path ∷ chain)) (lines_in path text) (n + 1)) (λ _. expanded (follow depth folders g root (path ∷ chain)) (lines_in path text) (n + 1))
-        (inl refl)
-        (λ _. stays-expanded (follow depth folders f root (path ∷ chain)) (follow depth folders g root (path ∷ chain)) (stays-follow depth root (path ∷ chain)) (lines_in path text) (n + 1)))))
+    abbrev taken_by : (List ℕ → Option FileAnswer) → List ℕ → ℕ → Follow → List (List ℕ) → Take
+    taken_by answer root = taken policies.Load folders answer root
 
-    stays-from : (root : List ℕ) → StaysOrAsks (lines_from_root folders f root) (lines_from_root folders g root)
-    stays-from root =
-        let paths = root ∷ [] in
-        stays-bind (text_of root None (f root)) (text_of root None (g root))
-        (λ text. expanded (follow 15 folders f root paths) (lines_in root text) 0 >>= λ found. Ok found.lines)
-        (λ text. expanded (follow 15 folders g root paths) (lines_in root text) 0 >>= λ found. Ok found.lines)
-        (stays-text root None)
-        (λ text. stays-bind (expanded (follow 15 folders f root paths) (lines_in root text) 0) (expanded (follow 15 folders g root paths) (lines_in root text) 0)
-        (λ found. Ok found.lines) (λ found. Ok found.lines)
-        (stays-expanded (follow 15 folders f root paths) (follow 15 folders g root paths) (stays-follow 15 root paths) (lines_in root text) 0) (λ found. inl refl))
+    abbrev follow_by : (List ℕ → Option FileAnswer) → List ℕ → ℕ → List (List ℕ) → Follow
+    follow_by answer root = follow policies.Load folders answer root
+
+    module _ (root : List ℕ) (h k : Follow) (chain : List (List ℕ)) (stays : (place : LocationView) (name path text : List ℕ) (walk : Walk) → StaysOrAsks (h place name path text walk) (k place name path text walk)) where
+      stays-loaded : (place : LocationView) (name path : List ℕ) (walk : Walk) → StaysOrAsks (loaded_at h f chain place name path walk) (loaded_at k g chain place name path walk)
+      stays-loaded place name path walk =
+          stays-bind (text_of path (Some place) (f path)) (text_of path (Some place) (g path))
+          (λ text. apart path place chain >>= λ _. h place name path text walk) (λ text. apart path place chain >>= λ _. k place name path text walk)
+          (stays-text path (Some place))
+          (λ text. stays-bind (apart path place chain) (apart path place chain) (λ _. h place name path text walk) (λ _. k place name path text walk) (inl refl) (λ _. stays place name path text walk))
+
+      stays-taken : (depth : ℕ) (place : LocationView) (name : List ℕ) (walk : Walk) → StaysOrAsks (taken_by f root depth h chain place name walk) (taken_by g root depth k chain place name walk)
+      stays-taken zero place name walk = inl refl
+      stays-taken (suc depth) place name walk =
+          let usual = included root name in
+          stays-bind (few usual place walk.way) (few usual place walk.way) (λ _. loaded_at h f chain place name (found folders f usual name) walk) (λ _. loaded_at k g chain place name (found folders g usual name) walk)
+          (inl refl)
+          (λ _. stays-first (Some place) (usual ∷ paths_in folders name) usual (λ path. loaded_at h f chain place name path walk) (λ path. loaded_at k g chain place name path walk)
+          (λ path unknown. ap (λ (a : Option FileAnswer). text_of path (Some place) a >>= λ text. (apart path place chain >>= λ _. h place name path text walk)) unknown)
+          (λ path no. ap (λ (r : Result (List ℕ) Refusal). r >>= λ text. (apart path place chain >>= λ _. k place name path text walk)) no)
+          (λ path. stays-loaded place name path walk))
+
+    stays-follow : (root : List ℕ) (depth : ℕ) (chain : List (List ℕ)) (place : LocationView) (name path text : List ℕ) (walk : Walk)
+        → StaysOrAsks (follow_by f root depth chain place name path text walk) (follow_by g root depth chain place name path text walk)
+    unfolding follow
+    stays-follow root zero chain place name path text walk = inl refl
+    stays-follow root (suc depth) chain place name path text walk =
+        let h = follow_by f root depth (path ∷ chain) in
+        let k = follow_by g root depth (path ∷ chain) in
+        stays-expanded (taken_by f root depth h (path ∷ chain)) (taken_by g root depth k (path ∷ chain))
+        (stays-taken root h k (path ∷ chain) (stays-follow root depth (path ∷ chain)) depth) (lines_in path text) (on_way (with_file path name walk.way) walk)
+
+    module _ (name : List ℕ) where
+      abbrev from_text : (List ℕ → Option FileAnswer) → List ℕ → List ℕ → Result (List LineView) Refusal
+      from_text answer root text =
+          expanded (taken_by answer root 15 (follow_by answer root 15 (root ∷ [])) (root ∷ [])) (lines_in root text) (record { lines = []; way = with_file root name no_way }) >>= λ walk. Ok walk.lines
+
+      -- the lines from a root that was found
+      abbrev from_root : (List ℕ → Option FileAnswer) → List ℕ → Result (List LineView) Refusal
+      from_root answer root = text_of root None (answer root) >>= from_text answer root
+
+      stays-from : (root : List ℕ) → StaysOrAsks (from_root f root) (from_root g root)
+      stays-from root =
+          let h = follow_by f root 15 (root ∷ []) in
+          let k = follow_by g root 15 (root ∷ []) in
+          let start : Walk = record { lines = []; way = with_file root name no_way } in
+          stays-bind (text_of root None (f root)) (text_of root None (g root)) (from_text f root) (from_text g root) (stays-text root None)
+          (λ text. stays-bind (expanded (taken_by f root 15 h (root ∷ [])) (lines_in root text) start) (expanded (taken_by g root 15 k (root ∷ [])) (lines_in root text) start)
+          (λ walk. Ok walk.lines) (λ walk. Ok walk.lines)
+          (stays-expanded (taken_by f root 15 h (root ∷ [])) (taken_by g root 15 k (root ∷ [])) (stays-taken root h k (root ∷ []) (stays-follow root 15 (root ∷ [])) 15) (lines_in root text) start) (λ walk. inl refl))
+
+    lines-from : (answer : List ℕ → Option FileAnswer) (root : List ℕ) → lines_over folders answer root ≡ from_root (last_part root) answer (found folders answer root root)
+    unfolding lines_over
+    lines-from answer root = by_text (text_of top None (answer top))
+      where
+        top : List ℕ
+        top = found folders answer root root
+
+        by_text : (r : Result (List ℕ) Refusal)
+            → ((r >>= λ text. expanded (taken_by answer top 15 (follow_by answer top 15 (top ∷ [])) (top ∷ [])) (lines_in top text) (record { lines = []; way = with_file top (last_part root) no_way })) >>= λ walk. Ok walk.lines)
+            ≡ (r >>= from_text (last_part root) answer top)
+        by_text (Ok text) = refl
+        by_text (Err why) = refl
 
     stays-lines : (root : List ℕ) → StaysOrAsks (lines_over folders f root) (lines_over folders g root)
-    unfolding lines_over
     stays-lines root =
-        stays-first None (root ∷ paths_in folders root) root (lines_from_root folders f) (lines_from_root folders g)
-        (λ path unknown. ap (λ (a : Option FileAnswer). text_of path None a >>= λ text. (expanded (follow 15 folders f path (path ∷ [])) (lines_in path text) 0 >>= λ found. Ok found.lines)) unknown)
-        (λ path no. ap (λ (r : Result (List ℕ) Refusal). r >>= λ text. (expanded (follow 15 folders g path (path ∷ [])) (lines_in path text) 0 >>= λ found. Ok found.lines)) no)
-        stays-from
+        let name = last_part root in
+        subst₂ (λ (r s : Result (List LineView) Refusal). StaysOrAsks r s) (sym (lines-from f root)) (sym (lines-from g root))
+        (stays-first None (root ∷ paths_in folders root) root (from_root name f) (from_root name g)
+        (λ path unknown. ap (λ (a : Option FileAnswer). text_of path None a >>= from_text name f path) unknown)
+        (λ path no. ap (λ (r : Result (List ℕ) Refusal). r >>= from_text name g path) no)
+        (stays-from name))
 
     module _ (root : List ℕ) where
       -- where no read failed, more answers change nothing

@@ -1,23 +1,54 @@
 -- What gathering the files of a table gives: its files, or why they can't be gathered. The
 -- project's own choice.
-use Rattle.std.specs.Prelude.{◌≡◌, ◌≢◌, IsTrue, ◌≤◌, ◌+◌, ◌*◌, ◌⊎◌, ℕ, List, length, map, Ok, Err, Some, string_bytes}
-use Rattle.brl_failure.specs.Failure.{IsChanged}
-use Rattle.brl_failure.specs.declared.failure.Failure.{Failure}
-use Rattle.brl_failure.specs.declared.failure.Failure.TheVariants as failures
-use Rattle.brl_lines.specs.Answer.{FileAnswers, is_missing}
-use Rattle.brl_lines.specs.Gathered.{IsUnread, left_view}
-use Rattle.brl_lines.specs.Gathering.{GatheredView, StopView, gathered_from, way_from}
-use Rattle.brl_lines.specs.Lines.{Answers, answer_at, refusal}
-use Rattle.brl_lines.specs.Outcome.{AreGiven}
-use Rattle.brl_lines.specs.Views.{load_fault_view, location_view}
-use Rattle.brl_lines.specs.declared.fault.LoadFault.{LoadFault}
-use Rattle.brl_lines.specs.declared.fault.LoadFaultKind.{LoadFaultKind}
-use Rattle.brl_lines.specs.declared.fault.LoadFaultKind.TheVariants as kinds
+use Rattle.std.specs.Prelude.{◌≡◌, ℕ, List, [], ◌∷◌, flat_map, map, Option, Some, None, Result, Ok, Err, string_bytes}
+use Rattle.brl_lines.specs.Answer.{FileAnswer, FileAnswers, Holds}
+use Rattle.brl_lines.specs.Gathered.{left_view, out_view}
+use Rattle.brl_lines.specs.Gathering.{GatheredView}
+use Rattle.brl_lines.specs.Lines.{Answers, OutView, Refusal, Walk, WayView, answer_at, walk_over}
+use Rattle.brl_lines.specs.Outcome.{AreGiven, IsReadFailure}
+use Rattle.brl_lines.specs.Views.{load_fault_view}
 use Rattle.brl_lines.specs.declared.gathering.GatherFault.{GatherFault}
-use Rattle.brl_lines.specs.declared.gathering.GatherFault.TheVariants.{LeadsOut, Load}
+use Rattle.brl_lines.specs.declared.gathering.GatherFault.TheVariants as faults
 use Rattle.brl_lines.specs.declared.gathering.Gathered.{Gathered}
-use Rattle.brl_lines.specs.declared.way.StopKind.{StopKind}
-use Rattle.brl_lines.specs.declared.way.StopKind.TheVariants as stops
+use Rattle.brl_lines.specs.declared.way.Policy.TheVariants.{Gather}
+
+-- why nothing is gathered: a file is refused, or an include line leads out of the root's folder
+pub data GatherRefusal : Type 0 where
+  Refused : Refusal → GatherRefusal
+  Outside : OutView → GatherRefusal
+
+-- the bytes of a file that is known to be there
+abbrev pub held : Option FileAnswer → Option (List ℕ)
+held (Some (Holds bytes)) = Some bytes
+held answer = None
+
+-- a file with these bytes, as a list; empty where there are none
+abbrev pub file_if : List ℕ → Option (List ℕ) → List (List ℕ × List ℕ)
+file_if path (Some bytes) = (path, bytes) ∷ []
+file_if path None = []
+
+-- the files on a way, and what it left out
+abbrev pub gathered_on : (List ℕ → Option FileAnswer) → WayView → GatheredView
+gathered_on answer way = record {
+  files = flat_map (λ path. file_if path (held (answer path))) way.paths;
+  names = way.names;
+  left_out = way.left_out;
+}
+
+-- what is gathered, unless an include line leads out
+abbrev pub unless_out : Option OutView → GatheredView → Result GatheredView GatherRefusal
+unless_out (Some out) found = Err (Outside out)
+unless_out None found = Ok found
+
+-- what a walk gathers
+abbrev pub gathered_by : (List ℕ → Option FileAnswer) → Result Walk Refusal → Result GatheredView GatherRefusal
+gathered_by answer (Ok walk) = unless_out walk.way.out (gathered_on answer walk.way)
+gathered_by answer (Err refused) = Err (Refused refused)
+
+-- the files of the table whose root has a path, by what is known of each path, where files are
+-- looked for in these folders too
+abbrev pub gathered_from : List (List ℕ) → (List ℕ → Option FileAnswer) → List ℕ → Result GatheredView GatherRefusal
+gathered_from folders answer root = gathered_by answer (walk_over Gather folders answer root)
 
 -- what is gathered, as the code has it
 abbrev pub gathered_view : Gathered → GatheredView
@@ -32,52 +63,17 @@ abbrev pub IsGathered : FileAnswers → List ℕ → Gathered → Type 0
 IsGathered gives root found =
     (answers : Answers) × AreGiven gives answers × (gathered_from gives.folders (answer_at answers) root ≡ Ok (gathered_view found))
 
--- the most paths that are asked for: 1,025 for each place where a file is looked for, the usual one
--- and the folders
-abbrev pub most_paths : List (List ℕ) → ℕ
-most_paths folders = (length folders + 1) * 1025
+-- why nothing is gathered, as the code has it
+abbrev pub gather_fault_view : GatherFault → GatherRefusal
+gather_fault_view (faults.Load fault) = Refused (load_fault_view fault)
+gather_fault_view (faults.LeadsOut out) = Outside (out_view out)
 
--- the fault of an include line that leads out of the root's folder
-abbrev pub IsOutside : StopView → GatherFault → Type 0
-IsOutside stop (LeadsOut out) = (stop.kind ≡ stops.LeadsOut) × (string_bytes out.name ≡ stop.subject) × (Some (location_view out.place) ≡ stop.place)
-IsOutside stop (Load fault) = ⊥
-
--- the fault of this kind at the file where a way ended
-abbrev pub IsRefusalAt : LoadFaultKind → StopView → GatherFault → Type 0
-IsRefusalAt kind stop (Load fault) = load_fault_view fault ≡ refusal kind stop.subject stop.place
-IsRefusalAt kind stop (LeadsOut out) = ⊥
-
--- the file that a way asked for is refused for what the source answers, and not since there is none
-abbrev pub IsUnreadAt : FileAnswers → StopView → GatherFault → Type 0
-IsUnreadAt gives stop (Load fault) = IsUnread gives stop.subject stop.place (failures.Fault fault) × (fault.kind ≢ kinds.NotFound)
-IsUnreadAt gives stop (LeadsOut out) = ⊥
-
--- it is known that there is no file where a way ended
-abbrev pub IsNowhere : Answers → StopView → GatherFault → Type 0
-IsNowhere answers stop fault = IsTrue (is_missing (answer_at answers stop.subject)) × IsRefusalAt kinds.NotFound stop fault
-
--- why a way that ended so can't go on: its file would be too deep, or is one too many after the
--- most paths, or is nowhere, or is refused; or its include line leads out of the folder
-abbrev pub IsFaultAs : StopKind → FileAnswers → Answers → StopView → GatherFault → Type 0
-IsFaultAs stops.LeadsOut gives answers stop fault = IsOutside stop fault
-IsFaultAs stops.TooDeep gives answers stop fault = IsRefusalAt kinds.TooDeep stop fault
-IsFaultAs stops.Unknown gives answers stop fault =
-    ((most_paths gives.folders ≤ length answers) × IsRefusalAt kinds.TooManyIncludes stop fault)
-    ⊎ (IsNowhere answers stop fault ⊎ IsUnreadAt gives stop fault)
-
--- the fault at a stop, by the stop alone
-abbrev pub IsFaultAtStop : FileAnswers → Answers → StopView → GatherFault → Type 0
-IsFaultAtStop gives answers stop fault = IsFaultAs stop.kind gives answers stop fault
+-- a file that is refused as unreadable is one that the source may be unable to read
+abbrev pub IsUnreadFile : FileAnswers → GatherFault → Type 0
+IsUnreadFile gives (faults.Load fault) = IsReadFailure gives (load_fault_view fault)
+IsUnreadFile gives (faults.LeadsOut out) = Unit {0}
 
 -- why the files of the table whose root is at a path aren't gathered, for answers of the source
 abbrev pub IsGatherFault : FileAnswers → List ℕ → GatherFault → Type 0
 IsGatherFault gives root fault =
-    (answers : Answers) × AreGiven gives answers × (stop : StopView) × (way_from gives.folders (answer_at answers) root ≡ Err stop) × IsFaultAtStop gives answers stop fault
-
--- the fault of a load, as one of gathering
-abbrev pub IsLoadIn : LoadFault → GatherFault → Type 0
-IsLoadIn one other = other ≡ Load one
-
--- the failure of a load, as one of gathering
-abbrev pub IsOfLoad : Failure LoadFault → Failure GatherFault → Type 0
-IsOfLoad one other = IsChanged IsLoadIn one other
+    (answers : Answers) × AreGiven gives answers × (gathered_from gives.folders (answer_at answers) root ≡ Err (gather_fault_view fault)) × IsUnreadFile gives fault

@@ -18,3 +18,4 @@ pub mod Steps
 pub mod Gathered
 pub mod Gathering
 pub mod GatherFaults
+pub mod Skipping

@@ -3,16 +3,21 @@
 -- Tables" of the liblouis User's and Programmer's Manual, that a table is the lines of its file,
 -- and that an include line is replaced by the lines of the file that it names. The limits, and the
 -- order in which a file is checked for faults, are the project's own choice.
-use Rattle.std.specs.Prelude.{◌≡◌, ℕ, zero, suc, ◌+◌, Bool, if◌then◌else◌, nat_le, nat_lt, List, [], ◌∷◌, ◌++◌, length, Option, Some, None, Result, Ok, Err}
+use Rattle.std.specs.Prelude.{◌≡◌, ℕ, zero, suc, Bool, true, false, if◌then◌else◌, is_some, nat_lt, List, [], ◌∷◌, ◌++◌, length, Option, Some, None, Result, Ok, Err}
 use Rattle.std.specs.List.{list_any, position_from}
 use Rattle.std.specs.Str.{bytes_eq, is_utf8}
 use Rattle.brl_failure.specs.Failure.{◌>>=◌}
-use Rattle.brl_lines.specs.Answer.{FileAnswer, Holds, Missing, Large, Unreadable, most_file_bytes}
-use Rattle.brl_lines.specs.Includes.{found, included, name_of}
+use Rattle.brl_lines.specs.Answer.{FileAnswer, Holds, Missing, Large, Unreadable, is_missing, most_file_bytes}
+use Rattle.brl_lines.specs.Gathering.{LeftView, is_dictionary, is_plain}
+use Rattle.brl_lines.specs.Includes.{found, included, last_part, name_of}
 use Rattle.brl_lines.specs.Rows.{rows_of, without_mark}
 use Rattle.brl_lines.specs.Tokens.{LineView, lines_in}
 use Rattle.brl_lines.specs.declared.fault.LoadFaultKind.{LoadFaultKind}
 use Rattle.brl_lines.specs.declared.fault.LoadFaultKind.TheVariants as kinds
+use Rattle.brl_lines.specs.declared.way.IncludeReason.{IncludeReason}
+use Rattle.brl_lines.specs.declared.way.IncludeReason.TheVariants as reasons
+use Rattle.brl_lines.specs.declared.way.Policy.{Policy}
+use Rattle.brl_lines.specs.declared.way.Policy.TheVariants as policies
 
 -- a file's path and a line of it
 pub record LocationView : Type 0 where
@@ -78,78 +83,181 @@ text_of path place (Some Large) = Err (refusal kinds.TooLarge path place)
 text_of path place (Some Unreadable) = Err (refusal kinds.ReadFailed path place)
 text_of path place None = Err (refusal kinds.ReadFailed path place)
 
+-- ---- The way
+
 -- the most include lines that are followed
 abbrev pub most_includes : ℕ
 most_includes = 1024
 
--- lines, and how many include lines were followed by their end
-pub record Expanded : Type 0 where
+-- an include line whose name leads out of the root's folder: the name, and where it is
+pub record OutView : Type 0 where
+  pub name : List ℕ
+  pub place : LocationView
+
+-- what a walk came through: of the files, the paths where they were found and the names by which
+-- they were looked for; the include lines that are left out; and the one that leads out
+pub record WayView : Type 0 where
+  pub paths : List (List ℕ)
+  pub names : List (List ℕ)
+  pub left_out : List LeftView
+  pub out : Option OutView
+
+-- the way before its first file
+abbrev pub no_way : WayView
+no_way = record { paths = []; names = []; left_out = []; out = None }
+
+-- the way with a file more
+abbrev pub with_file : List ℕ → List ℕ → WayView → WayView
+with_file path name way = record way { paths = way.paths ++ path ∷ []; names = way.names ++ name ∷ [] }
+
+-- the way with an include line more that is left out
+abbrev pub with_left : LocationView → List ℕ → IncludeReason → WayView → WayView
+with_left place name reason way = record way {
+  left_out = way.left_out ++ record { file = place.file; line = place.line; name = name; reason = reason } ∷ [];
+}
+
+-- the way to an include line that leads out
+abbrev pub with_out : LocationView → List ℕ → WayView → WayView
+with_out place name way = record way { out = Some (record { name = name; place = place }) }
+
+-- The way past an include line that isn't looked for. Where all are loaded there is none. Else one
+-- of a dictionary is left out; and where files are gathered, so that none leads out, the first one
+-- that does ends the way: none after it is looked for.
+abbrev pub passed : Policy → LocationView → List ℕ → WayView → Option WayView
+passed policies.Load place name way = None
+passed policies.SkipDictionaries place name way = if is_dictionary name then Some (with_left place name reasons.Dictionary way) else None
+passed policies.Gather place name way =
+    if is_some way.out then Some way
+    else if is_dictionary name then Some (with_left place name reasons.Dictionary way)
+    else if is_plain name then None
+    else Some (with_out place name way)
+
+-- files are gathered
+abbrev pub gathers : Policy → Bool
+gathers policies.Gather = true
+gathers policy = false
+
+-- ---- The walk
+
+-- a walk so far: its lines, and its way
+pub record Walk : Type 0 where
   pub lines : List LineView
-  pub includes : ℕ
+  pub way : WayView
 
--- these lines, and this number
-abbrev pub expanded_as : List LineView → ℕ → Expanded
-expanded_as lines includes = record { lines = lines; includes = includes }
+-- the walk with a line more
+abbrev pub with_line : LineView → Walk → Walk
+with_line line walk = record walk { lines = walk.lines ++ line ∷ [] }
 
--- what an include line is replaced by, from its place, the name in it, and how many include lines
--- were followed before
+-- the walk with this way
+abbrev pub on_way : WayView → Walk → Walk
+on_way way walk = record walk { way = way }
+
+-- the walk on from an include line, by its place and the name in it
+abbrev pub Take : Type 0
+Take = LocationView → List ℕ → Walk → Result Walk Refusal
+
+-- the walk on from an include line through the file at a path, which has a text
 abbrev pub Follow : Type 0
-Follow = LocationView → List ℕ → ℕ → Result Expanded Refusal
+Follow = LocationView → List ℕ → List ℕ → List ℕ → Walk → Result Walk Refusal
 
 -- the place of a line
 abbrev pub location_of : LineView → LocationView
 location_of line = record { file = line.file; line = line.line }
 
--- a line, or what the name that it includes is replaced by
-abbrev pub replaced : Follow → LineView → Option (List ℕ) → ℕ → Result Expanded Refusal
-replaced follow line None includes = Ok (expanded_as (line ∷ []) includes)
-replaced follow line (Some name) includes = follow (location_of line) name includes
+-- the walk on through a line, or from it by the name that it includes
+abbrev pub replaced : Take → LineView → Option (List ℕ) → Walk → Result Walk Refusal
+replaced take line None walk = Ok (with_line line walk)
+replaced take line (Some name) walk = take (location_of line) name walk
 
--- the lines in order, each include line replaced
-abbrev pub expanded : Follow → List LineView → ℕ → Result Expanded Refusal
-expanded follow [] includes = Ok (expanded_as [] includes)
-expanded follow (line ∷ lines) includes = do
-  here ← replaced follow line (name_of line) includes
-  others ← expanded follow lines here.includes
-  Ok (expanded_as (here.lines ++ others.lines) others.includes)
+-- the walk on through lines in order, each include line taken
+abbrev pub expanded : Take → List LineView → Walk → Result Walk Refusal
+expanded take [] walk = Ok walk
+expanded take (line ∷ lines) walk = do
+  next ← replaced take line (name_of line) walk
+  expanded take lines next
 
--- an include line, whose file has this usual path, isn't one too many
-abbrev pub few : List ℕ → LocationView → ℕ → Result (Unit {0}) Refusal
-few usual place includes = if nat_le most_includes includes then Err (refusal kinds.TooManyIncludes usual (Some place)) else Ok tt
+-- an include line, whose file has this usual path, isn't one too many; the root is one of the paths
+abbrev pub few : List ℕ → LocationView → WayView → Result (Unit {0}) Refusal
+few usual place way = if nat_lt most_includes (length way.paths) then Err (refusal kinds.TooManyIncludes usual (Some place)) else Ok tt
 
 -- the path of its file isn't among those that lead to it
 abbrev pub apart : List ℕ → LocationView → List (List ℕ) → Result (Unit {0}) Refusal
 apart path place chain = if list_any (bytes_eq path) chain then Err (refusal kinds.Cycle path (Some place)) else Ok tt
 
--- what an include line is replaced by, whose file is at a path: the lines of that file, each
--- include line replaced
-abbrev pub entered : (List (List ℕ) → Follow) → (List ℕ → Option FileAnswer) → List (List ℕ) → LocationView → List ℕ → ℕ → Result Expanded Refusal
-entered within answer chain place path includes = do
+-- the walk on from an include line whose file is at a path, where all files are loaded
+abbrev pub loaded_at : Follow → (List ℕ → Option FileAnswer) → List (List ℕ) → LocationView → List ℕ → List ℕ → Walk → Result Walk Refusal
+loaded_at follow answer chain place name path walk = do
   text ← text_of path (Some place) (answer path)
   _ ← apart path place chain
-  expanded (within (path ∷ chain)) (lines_in path text) (includes + 1)
+  follow place name path text walk
 
--- What an include line is replaced by, where its file and the files below it may be this many deep.
--- A file that would be too deep isn't looked for in the folders.
-unfoldable pub follow : ℕ → List (List ℕ) → (List ℕ → Option FileAnswer) → List ℕ → List (List ℕ) → Follow
-follow zero folders answer root chain place name includes = do
-  _ ← few (included root name) place includes
+-- the walk on from it where files are gathered, and it has this text: it is left out where the walk
+-- came through the file before
+abbrev pub unless_repeated : Follow → LocationView → List ℕ → List ℕ → List ℕ → Walk → Result Walk Refusal
+unless_repeated follow place name path text walk =
+    if list_any (bytes_eq path) walk.way.paths then Ok (on_way (with_left place name reasons.Repeated walk.way) walk) else follow place name path text walk
+
+-- and where its file isn't there
+abbrev pub gathered_at : Follow → (List ℕ → Option FileAnswer) → LocationView → List ℕ → List ℕ → Walk → Result Walk Refusal
+gathered_at follow answer place name path walk =
+    if is_missing (answer path) then Ok (on_way (with_left place name reasons.Missing walk.way) walk)
+    else (text_of path (Some place) (answer path) >>= λ text. unless_repeated follow place name path text walk)
+
+-- the walk on from an include line that was passed, or else looked for
+abbrev pub past : Option WayView → Walk → Result Walk Refusal → Result Walk Refusal
+past (Some way) walk looked = Ok (on_way way walk)
+past None walk looked = looked
+
+-- The walk on from an include line that is looked for, below whose own file others may be this many
+-- deep. A file that would be too deep isn't looked for, unless files are gathered.
+abbrev pub looked : List (List ℕ) → (List ℕ → Option FileAnswer) → List ℕ → Bool → ℕ → Follow → List (List ℕ) → Take
+looked folders answer root true depth follow chain place name walk =
+    gathered_at follow answer place name (found folders answer (included root name) name) walk
+looked folders answer root false zero follow chain place name walk = do
   _ ← apart (included root name) place chain
   Err (refusal kinds.TooDeep (included root name) (Some place))
-follow (suc depth) folders answer root chain place name includes = do
-  _ ← few (included root name) place includes
-  entered (follow depth folders answer root) answer chain place (found folders answer (included root name) name) includes
+looked folders answer root false (suc depth) follow chain place name walk =
+    loaded_at follow answer chain place name (found folders answer (included root name) name) walk
 
--- the lines of the table whose root was found at a path: the root is 1 deep, any file 16 at most
-abbrev pub lines_from_root : List (List ℕ) → (List ℕ → Option FileAnswer) → List ℕ → Result (List LineView) Refusal
-lines_from_root folders answer root = do
+-- the walk on from an include line that isn't passed: it isn't one too many, and is looked for
+abbrev pub entered : Policy → List (List ℕ) → (List ℕ → Option FileAnswer) → List ℕ → ℕ → Follow → List (List ℕ) → Take
+entered policy folders answer root depth follow chain place name walk = do
+  _ ← few (included root name) place walk.way
+  looked folders answer root (gathers policy) depth follow chain place name walk
+
+-- the walk on from an include line
+abbrev pub taken : Policy → List (List ℕ) → (List ℕ → Option FileAnswer) → List ℕ → ℕ → Follow → List (List ℕ) → Take
+taken policy folders answer root depth follow chain place name walk =
+    past (passed policy place name walk.way) walk (entered policy folders answer root depth follow chain place name walk)
+
+-- the walk on through a file to which an include line leads, where it and the files below it may be
+-- this many deep
+unfoldable pub follow : Policy → List (List ℕ) → (List ℕ → Option FileAnswer) → List ℕ → ℕ → List (List ℕ) → Follow
+follow policy folders answer root zero chain place name path text walk = Err (refusal kinds.TooDeep path (Some place))
+follow policy folders answer root (suc depth) chain place name path text walk =
+    expanded (taken policy folders answer root depth (follow policy folders answer root depth (path ∷ chain)) (path ∷ chain))
+    (lines_in path text) (on_way (with_file path name walk.way) walk)
+
+-- the whole walk from the root that was found at a path, and has this name: it is 1 deep, and any
+-- file 16 at most
+abbrev pub walk_from : Policy → List (List ℕ) → (List ℕ → Option FileAnswer) → List ℕ → List ℕ → Result Walk Refusal
+walk_from policy folders answer name root = do
   text ← text_of root None (answer root)
-  all ← expanded (follow 15 folders answer root (root ∷ [])) (lines_in root text) 0
-  Ok all.lines
+  expanded (taken policy folders answer root 15 (follow policy folders answer root 15 (root ∷ [])) (root ∷ []))
+      (lines_in root text) (record { lines = []; way = with_file root name no_way })
+
+-- the whole walk from the root that has a path, by what is known of each path, where files are
+-- looked for in these folders too
+abbrev pub walk_over : Policy → List (List ℕ) → (List ℕ → Option FileAnswer) → List ℕ → Result Walk Refusal
+walk_over policy folders answer root = walk_from policy folders answer (last_part root) (found folders answer root root)
+
+-- ---- The lines
 
 -- the lines over what is known of each path, where files are looked for in these folders too
 unfoldable pub lines_over : List (List ℕ) → (List ℕ → Option FileAnswer) → List ℕ → Result (List LineView) Refusal
-lines_over folders answer root = lines_from_root folders answer (found folders answer root root)
+lines_over folders answer root = do
+  walk ← walk_over policies.Load folders answer root
+  Ok walk.lines
 
 -- the lines of the table whose root has a path
 abbrev pub lines_of : List (List ℕ) → Answers → List ℕ → Result (List LineView) Refusal

@@ -1,13 +1,15 @@
 -- Internal. What the single steps of a load do, in the words of the definitions.
-use Rattle.std.specs.Prelude.{◌≡◌, ◌≢◌, Bool, true, not, ℕ, ◌+◌, ◌<◌, ◌≤◌, List, [], ◌∷◌, ◌++◌, length, map, Option, None, Some, Result, Ok, Err, string_bytes}
+use Rattle.std.specs.Global.{Global}
+use Rattle.std.specs.Prelude.{◌≡◌, ◌≢◌, Bool, not, ℕ, ◌+◌, ◌<◌, ◌≤◌, IfSome, List, [], ◌∷◌, ◌++◌, length, map, Option, None, Some, Result, Ok, Err, String, string_bytes}
 use Rattle.std.specs.List.{AllByRecursion, enumerate_from, flat_map}
 use Rattle.std.specs.Str.{IsCharBoundary}
-use Rattle.brl_failure.specs.Failure.{◌>>=◌, IfFault}
+use Rattle.brl_failure.specs.Failure.{IfFault}
 use Rattle.brl_failure.specs.declared.failure.Failure.{Failure}
 use Rattle.brl_lines.specs.Answer.{FileAnswer, Holds, FileAnswers, is_missing, MayAnswer}
-use Rattle.brl_lines.specs.Files.{Files, answer_for, answers_of, chain_of, lines_at, path_at, span_lines, text_at}
+use Rattle.brl_lines.specs.Files.{Files, answer_for, answers_of, chain_of, path_at, span_lines, text_at}
+use Rattle.brl_lines.specs.Gathered.{walk_view, walk_with, way_view}
 use Rattle.brl_lines.specs.Includes.{first_there, found, name_of, paths_in}
-use Rattle.brl_lines.specs.Lines.{Answers, Expanded, LocationView, Refusal, answer_at, expanded, expanded_as, follow, text_of}
+use Rattle.brl_lines.specs.Lines.{Answers, LocationView, Refusal, Take, Walk, answer_at, entered, expanded, follow, gathered_at, loaded_at, taken, text_of, walk_over, with_file}
 use Rattle.brl_lines.specs.Outcome.{AreGiven, IsReadFailure}
 use Rattle.brl_lines.specs.Rows.{piece, rows}
 use Rattle.brl_lines.specs.Tokens.{LineView, line_of, lines_in, token_of, tokens}
@@ -17,12 +19,13 @@ use Rattle.brl_failure.specs.declared.failure.Failure.TheVariants.{Fault}
 use Rattle.brl_lines.specs.declared.expand.Expansion.{Expansion}
 use Rattle.brl_lines.specs.declared.fault.LoadFaultKind.TheVariants as kinds
 use Rattle.brl_lines.specs.declared.fault.LoadFault.{LoadFault}
-use Rattle.brl_lines.specs.declared.include.IncludeLine.{IncludeLine}
 use Rattle.brl_lines.specs.declared.open_file.OpenFile.{OpenFile}
 use Rattle.brl_lines.specs.declared.row.FileRow.{FileRow}
 use Rattle.brl_lines.specs.declared.row.RowKind.{RowKind}
 use Rattle.brl_lines.specs.declared.row.RowKind.TheVariants.{Include, Line, Nothing}
 use Rattle.brl_lines.specs.declared.span.LineSpan.{LineSpan}
+use Rattle.brl_lines.specs.declared.way.Policy.{Policy}
+use Rattle.brl_lines.specs.declared.way.Way.{Way}
 
 -- ---- spans and rows
 
@@ -93,12 +96,15 @@ pub record FailsAs {U : Type 0} (gives : FileAnswers) (files : Files) (want : (L
 abbrev pub Fails : {U : Type 0} → FileAnswers → Files → ((List ℕ → Option FileAnswer) → Result U Refusal) → Failure LoadFault → Type 0
 Fails gives files want failure = IfFault (λ fault. FailsAs gives files want (load_fault_view fault)) failure
 
--- the source gave the bytes of the file that is returned, or the answer for which its path is
--- refused
+-- the source gave an answer for the file at a path for which it is refused
+abbrev pub IsUnread : FileAnswers → List ℕ → Option LocationView → Failure LoadFault → Type 0
+IsUnread gives path place failure =
+    IfFault (λ fault. (answer : FileAnswer) × MayAnswer gives path answer × (text_of path place (Some answer) ≡ Err (load_fault_view fault)) × IsReadFailure gives (load_fault_view fault)) failure
+
+-- the source gave the bytes of the file that is returned, or its path is refused
 abbrev pub Reads : FileAnswers → List ℕ → Option LocationView → Result CheckedFile (Failure LoadFault) → Type 0
 Reads gives path place (Ok file) = MayAnswer gives path (Holds (string_bytes file.whole))
-Reads gives path place (Err failure) =
-    IfFault (λ fault. (answer : FileAnswer) × MayAnswer gives path answer × (text_of path place (Some answer) ≡ Err (load_fault_view fault)) × IsReadFailure gives (load_fault_view fault)) failure
+Reads gives path place (Err failure) = IsUnread gives path place failure
 
 -- the file with this index is the one at a path, and its text is good
 pub record Finds (gives : FileAnswers) (old new : Files) (path : List ℕ) (index : ℕ) : Type 0 where
@@ -110,13 +116,12 @@ pub record Finds (gives : FileAnswers) (old new : Files) (path : List ℕ) (inde
 -- what is at a path was found out: a file, or none; or its file is refused
 abbrev pub FindsFile : FileAnswers → List ℕ → Option LocationView → Result (Option CheckedFile) (Failure LoadFault) → Type 0
 FindsFile gives path place (Ok file) = MayAnswer gives path (answer_for file)
-FindsFile gives path place (Err failure) =
-    IfFault (λ fault. (answer : FileAnswer) × MayAnswer gives path answer × (text_of path place (Some answer) ≡ Err (load_fault_view fault)) × IsReadFailure gives (load_fault_view fault)) failure
+FindsFile gives path place (Err failure) = IsUnread gives path place failure
 
--- that there is no file, where that may be and is the fault; else the fault
-abbrev pub IsMissingOr : Bool → LoadFault → Result (Option CheckedFile) (Failure LoadFault) → Type 0
-IsMissingOr may fault (Ok file) = (may ≡ true) × (fault.kind ≡ kinds.NotFound) × (file ≡ None)
-IsMissingOr may fault (Err failure) = (failure ≡ Fault fault) × (may ≡ true → fault.kind ≢ kinds.NotFound)
+-- that there is no file, where that is the fault; else the fault
+abbrev pub IsMissingOr : LoadFault → Result (Option CheckedFile) (Failure LoadFault) → Type 0
+IsMissingOr fault (Ok file) = (fault.kind ≡ kinds.NotFound) × (file ≡ None)
+IsMissingOr fault (Err failure) = (failure ≡ Fault fault) × (fault.kind ≢ kinds.NotFound)
 
 -- it is known whether there is a file at a path
 pub record Sees (gives : FileAnswers) (old new : Files) (path : List ℕ) (there : Bool) : Type 0 where
@@ -150,35 +155,81 @@ pub record IsReady (gives : FileAnswers) (table : Expansion) (file : OpenFile) :
   pub opened : IsOpen table.files.entries file
   pub spans : AreSpans table.files.entries table.spans.items
 
--- what an include line of a file is replaced by, in a table that is being loaded
-abbrev pub lines_of_include : List (List ℕ) → List ℕ → OpenFile → IncludeLine → Expansion → (List ℕ → Option FileAnswer) → Result Expanded Refusal
-lines_of_include folders root file include table answer =
-    follow file.depth_left folders answer root (chain_of file) (record { file = string_bytes file.path; line = include.line }) (string_bytes include.name) table.include_count
+-- what the definition says of a walk, by what is known of each path
+abbrev pub Wants : Type 0
+Wants = (List ℕ → Option FileAnswer) → Walk → Result Walk Refusal
 
--- the lines of a file, each include line replaced
-abbrev pub lines_of_file : List (List ℕ) → List ℕ → OpenFile → Expansion → (List ℕ → Option FileAnswer) → Result Expanded Refusal
-lines_of_file folders root file table answer =
-    expanded (follow file.depth_left folders answer root (chain_of file)) (lines_in (string_bytes file.path) (text_at table.files.entries file.index)) table.include_count
+-- the walk on from an include line of a file
+abbrev pub take_in : Policy → List (List ℕ) → List ℕ → OpenFile → (List ℕ → Option FileAnswer) → Take
+take_in policy folders root file answer =
+    taken policy folders answer root file.depth_left (follow policy folders answer root file.depth_left (chain_of file)) (chain_of file)
 
--- an include line leads to a file, and is replaced by its lines
-pub record Enters (gives : FileAnswers) (old new : Expansion) (root : List ℕ) (file : OpenFile) (include : IncludeLine) (inner : OpenFile) : Type 0 where
+-- the walk on from an include line of a file that is looked for
+abbrev pub enter_in : Policy → List (List ℕ) → List ℕ → OpenFile → (List ℕ → Option FileAnswer) → Take
+enter_in policy folders root file answer =
+    entered policy folders answer root file.depth_left (follow policy folders answer root file.depth_left (chain_of file)) (chain_of file)
+
+-- the walk on from an include line of a file, whose own is found at a path, where all are loaded
+abbrev pub load_in : Policy → List (List ℕ) → List ℕ → OpenFile → List ℕ → (List ℕ → Option FileAnswer) → Take
+load_in policy folders root file path answer place name walk =
+    loaded_at (follow policy folders answer root file.depth_left (chain_of file)) answer (chain_of file) place name path walk
+
+-- the walk on from such a line where files are gathered
+abbrev pub gather_in : Policy → List (List ℕ) → List ℕ → OpenFile → List ℕ → (List ℕ → Option FileAnswer) → Take
+gather_in policy folders root file path answer place name walk =
+    gathered_at (follow policy folders answer root file.depth_left (chain_of file)) answer place name path walk
+
+-- the walk on through the lines of a file with this text
+abbrev pub walk_in : Policy → List (List ℕ) → List ℕ → OpenFile → List ℕ → Wants
+walk_in policy folders root file text answer walk = expanded (take_in policy folders root file answer) (lines_in (string_bytes file.path) text) walk
+
+-- the walk on through a file that was opened, if one was
+abbrev pub walk_if : Policy → List (List ℕ) → List ℕ → Files → Option OpenFile → Wants
+walk_if policy folders root files None answer walk = Ok walk
+walk_if policy folders root files (Some file) answer walk = walk_in policy folders root file (text_at files file.index) answer walk
+
+-- a file was opened, if one was, which is less deep than the one that leads to it
+abbrev pub IsInner : Files → OpenFile → OpenFile → Type 0
+IsInner files file inner = IsOpen files inner × (inner.depth_left < file.depth_left)
+
+-- an include line of a file was taken: a file was opened if the walk goes on through it
+pub record Takes (gives : FileAnswers) (policy : Policy) (root : List ℕ) (file : OpenFile) (old new : Expansion) (want : Wants) (inner : Option OpenFile) : Type 0 where
   pub grows : Grows gives old.files.entries new.files.entries
-  pub spans : new.spans.items ≡ old.spans.items
-  pub depth : inner.depth_left < file.depth_left
-  pub opened : IsOpen new.files.entries inner
-  pub follows : (answer : List ℕ → Option FileAnswer) → Extends new.files.entries answer
-      → lines_of_include gives.folders root file include old answer ≡ lines_of_file gives.folders root inner new answer
+  pub spans : new.spans ≡ old.spans
+  pub opened : IfSome inner (IsInner new.files.entries file)
+  pub goes : (answer : List ℕ → Option FileAnswer) → Extends new.files.entries answer → (lines : List LineView)
+      → want answer (walk_with lines old.way) ≡ walk_if policy gives.folders root new.files.entries inner answer (walk_with lines new.way)
 
--- lines, and others after them
-abbrev pub after : List LineView → Result Expanded Refusal → Result Expanded Refusal
-after here others = do
-  more ← others
-  Ok (expanded_as (here ++ more.lines) more.includes)
+-- it was refused, whatever lines there are before it
+abbrev pub FailsFrom : FileAnswers → Expansion → Wants → Failure LoadFault → Type 0
+FailsFrom gives table want failure = (lines : List LineView) → Fails gives table.files.entries (λ answer. want answer (walk_with lines table.way)) failure
 
--- the lines that were added are those of the definition, over any answers that have those of the
+-- a file was opened on a way, to which an include line at a place leads by a name
+pub record Opens (old new : Way) (file : OpenFile) (name : List ℕ) (path : String Global) (index : ℕ) (inner : OpenFile) : Type 0 where
+  pub index_is : inner.index ≡ index
+  pub path_is : inner.path ≡ path
+  pub chain_is : map string_bytes inner.includers.items ≡ chain_of file
+  pub depth_is : file.depth_left ≡ inner.depth_left + 1
+  pub way_is : way_view new ≡ with_file (string_bytes path) name (way_view old)
+
+-- the walk went on through lines, as the definition says over any answers that have those of the
 -- files
-pub record Expands (gives : FileAnswers) (old new : Expansion) (want : (List ℕ → Option FileAnswer) → Result Expanded Refusal) : Type 0 where
+pub record Expands (gives : FileAnswers) (old new : Expansion) (want : Wants) : Type 0 where
   pub grows : Grows gives old.files.entries new.files.entries
   pub spans : AreSpans new.files.entries new.spans.items
-  pub adds : (answer : List ℕ → Option FileAnswer) → Extends new.files.entries answer
-      → after (lines_at old.files.entries old.spans.items) (want answer) ≡ Ok (expanded_as (lines_at new.files.entries new.spans.items) new.include_count)
+  pub goes : (answer : List ℕ → Option FileAnswer) → Extends new.files.entries answer → want answer (walk_view old) ≡ Ok (walk_view new)
+
+-- ---- whole walks
+
+-- the whole walk from a root, by answers of the source for the files
+pub record Walks (gives : FileAnswers) (policy : Policy) (root : List ℕ) (table : Expansion) : Type 0 where
+  pub given : AreGiven gives (answers_of table.files.entries)
+  pub spans : AreSpans table.files.entries table.spans.items
+  pub goes : walk_over policy gives.folders (answer_at (answers_of table.files.entries)) root ≡ Ok (walk_view table)
+
+-- it ends with this fault, for answers of the source
+pub record Stops (gives : FileAnswers) (policy : Policy) (root : List ℕ) (fault : LoadFault) : Type 0 where
+  pub answers : Answers
+  pub given : AreGiven gives answers
+  pub fails : walk_over policy gives.folders (answer_at answers) root ≡ Err (load_fault_view fault)
+  pub unreadable : IsReadFailure gives (load_fault_view fault)

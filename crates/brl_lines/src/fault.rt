@@ -77,6 +77,18 @@ pub(crate) struct LocationRef<'a> {
     pub line: u32,
 }
 
+impl LocationRef<'_> {
+    /// A copy of the place.
+    pub(crate) fn copy(self, alloc: Global) -> Result<Location, AllocError>
+        ensures { IfOk result (λ copy. location_view copy ≡ location_ref_view self.entry) }
+    {
+        Ok(Location {
+            file: String::from_str(alloc, self.file)?,
+            line: self.line,
+        })
+    }
+}
+
 impl LoadFault {
     /// A fault, with copies of its path and place.
     pub(crate) fn new(
@@ -94,7 +106,7 @@ impl LoadFault {
 }
 
 /// A copy of a place, where there is one.
-pub(crate) fn owned_place(
+fn owned_place(
     alloc: Global,
     place: Option<LocationRef<'_>>,
 ) -> Result<Option<Location>, AllocError>
@@ -103,10 +115,7 @@ pub(crate) fn owned_place(
     let Some(place) = place else {
         return Ok(None);
     };
-    Ok(Some(Location {
-        file: String::from_str(alloc, place.file)?,
-        line: place.line,
-    }))
+    Ok(Some(place.copy(alloc)?))
 }
 
 /// A fault with copies of its path and place, or `Memory` where there is none for them.

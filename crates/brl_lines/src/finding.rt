@@ -1,24 +1,22 @@
 //! Where a file is found: at its usual path, or by its name in one of the folders of the source.
-ghost use Rattle.std.specs.Prelude.{◌≡◌, ◌∷◌, IfErr, IfOk, map, option_map, string_bytes};
+ghost use Rattle.std.specs.Prelude.{◌≡◌, ◌≢◌, ◌∷◌, IfErr, IfOk, map, option_map, string_bytes};
+ghost use Rattle.brl_failure.specs.Failure.{IfFault};
 ghost use Rattle.brl_lines.specs.Files.{answers_of};
-ghost use Rattle.brl_lines.specs.Gathered.{known_answer};
-ghost use Rattle.brl_lines.specs.Includes.{found as found_at, paths_in as paths_of_name};
+ghost use Rattle.brl_lines.specs.Includes.{paths_in as paths_of_name};
 ghost use Rattle.brl_lines.specs.Outcome.{AreGiven, CountsFailure};
 ghost use Rattle.brl_lines.specs.Steps.{Fails, FindsFirst, Locates, text_of_first, text_of_found};
 ghost use Rattle.brl_lines.specs.Views.{location_ref_view};
 
-use crate::fault::{LoadFault, LocationRef};
+use crate::fault::{LoadFault, LoadFaultKind, LocationRef};
 use crate::include::path_in;
-use crate::known::{Known, is_missing};
 use crate::read::{ReadFiles, look_at};
 use crate::source::Source;
 use brl_failure::Failure;
-use indexmap::IndexMap;
 use std::alloc::{AllocError, Global};
 
 /// The usual path of a file, and its paths by its name in these folders; none of these where the
 /// name begins with a slash.
-pub(crate) fn paths_to_try(
+fn paths_to_try(
     alloc: Global,
     folders: &[String],
     usual: &str,
@@ -37,25 +35,6 @@ pub(crate) fn paths_to_try(
     Ok(paths)
 }
 
-/// The path at which a file is found that has a name and a usual path, by what is known of paths.
-pub(crate) fn found_by(
-    alloc: Global,
-    known: &IndexMap<String, Known>,
-    folders: &[String],
-    usual: &str,
-    name: &str,
-) -> Result<String, AllocError>
-    ensures { IfOk result (λ path. string_bytes path ≡ found_at (map string_bytes folders.now) (known_answer known.now.entries) usual.now name.now) }
-{
-    let paths = paths_to_try(alloc, folders, usual, name)?;
-    for path in &paths {
-        if !is_missing(known, path.as_str()) {
-            return String::from_str(alloc, path.as_str());
-        }
-    }
-    String::from_str(alloc, usual)
-}
-
 /// The first of some paths where there is a file; another one where there is none at any of them.
 fn first_there<S: Source>(
     alloc: Global,
@@ -68,6 +47,7 @@ fn first_there<S: Source>(
     requires { AreGiven (S.gives source.old) (answers_of files.old.entries) }
     ensures ok { IfOk result (λ path. FindsFirst (S.gives source.old) files.old.entries files.new.entries (map string_bytes paths.now) other.now (string_bytes path)) }
     ensures err { IfErr result (Fails (S.gives source.old) files.old.entries (text_of_first (map string_bytes paths.now) other.now (option_map location_ref_view place.entry))) }
+    ensures there { IfErr result (IfFault (λ fault. fault.kind ≢ LoadFaultKind.NotFound)) }
     ensures count { CountsFailure (S.faults source.old) (S.faults source.new) result }
     ensures same { S.gives source.new ≡ S.gives source.old }
 {
@@ -93,6 +73,7 @@ pub(crate) fn locate<S: Source>(
     requires { AreGiven (S.gives source.old) (answers_of files.old.entries) }
     ensures ok { IfOk result (λ path. Locates (S.gives source.old) files.old.entries files.new.entries (string_bytes usual) name.now (string_bytes path)) }
     ensures err { IfErr result (Fails (S.gives source.old) files.old.entries (text_of_found (S.gives source.old).folders (string_bytes usual) name.now (option_map location_ref_view place.entry))) }
+    ensures there { IfErr result (IfFault (λ fault. fault.kind ≢ LoadFaultKind.NotFound)) }
     ensures count { CountsFailure (S.faults source.old) (S.faults source.new) result }
     ensures same { S.gives source.new ≡ S.gives source.old }
 {

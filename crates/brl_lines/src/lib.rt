@@ -9,17 +9,15 @@
 //! `specs/Lines.antt`.
 #![tactic(auto)]
 
-mod ahead;
 mod checked_file;
 mod cut;
+mod entering;
 mod expand;
 mod fault;
 mod file_source;
 mod finding;
 mod gathering;
 mod include;
-mod known;
-mod known_file;
 mod laws;
 mod line;
 mod loaded;
@@ -29,10 +27,12 @@ mod open_file;
 mod operand;
 mod read;
 mod row;
+mod skipping;
 mod source;
 mod span;
 mod spelling;
 mod visible;
+mod walk;
 mod way;
 
 pub use checked_file::without_mark;
@@ -46,6 +46,7 @@ pub use loaded::{Loaded, load};
 pub use map_source::MapSource;
 pub use number::read_number;
 pub use operand::{CharsFault, characters, chars_of};
+pub use skipping::{WithoutDictionaries, load_without_dictionaries};
 pub use source::{MOST_FILE_BYTES, Source, SourceFault};
 pub use spelling::spell_chars;
 pub use visible::{is_unseen, spell_visibly, visible_line};

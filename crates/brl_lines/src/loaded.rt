@@ -5,22 +5,17 @@ ghost use Rattle.brl_lines.specs.Slices.{IsInOrder};
 ghost use Rattle.brl_lines.specs.Views.{line_view};
 
 use crate::cut::line_between;
-use crate::expand::{Expansion, expand};
 use crate::fault::LoadFault;
-use crate::finding::locate;
 use crate::line::Line;
-use crate::open_file::OpenFile;
-use crate::read::{ReadFiles, file_at};
+use crate::read::ReadFiles;
 use crate::row::text_of_file;
 use crate::source::Source;
 use crate::span::LineSpan;
+use crate::walk::walk;
+use crate::way::Policy;
 use brl_failure::Failure;
-use indexmap::IndexMap;
 use std::alloc::{AllocError, Global};
 use std::marker::Model;
-
-/// How deep below the root a file may be.
-const MOST_DEPTH: u32 = 15;
 
 /// A table whose files were read and found good. A contract sees its lines, and the paths that were
 /// read.
@@ -43,6 +38,17 @@ impl Model for Loaded {
 }
 
 impl Loaded {
+    ghost use Rattle.brl_lines.specs.Files.{loaded_view};
+    ghost use Rattle.brl_lines.specs.Steps.{AreSpans};
+
+    /// What was read for spans that are within it.
+    pub(crate) fn new(files: ReadFiles, spans: Vec<LineSpan>) -> Loaded
+        requires { AreSpans files.entries spans.items }
+        ensures { result ≡ loaded_view files.entries spans.items }
+    {
+        Loaded { files, spans }
+    }
+
     /// The lines that do something, each include line replaced by those of its file; their tokens
     /// are in order and don't overlap. Tokens are slices of the texts that were read. `AllocError`
     /// where an allocation failed.
@@ -102,23 +108,6 @@ pub fn load<S: Source>(
     ensures count { CountsFailure (S.faults source.old) (S.faults source.new) result }
     ensures same { S.gives source.new ≡ S.gives source.old }
 {
-    let mut table = Expansion {
-        files: IndexMap::new(alloc),
-        spans: Vec::new(alloc),
-        include_count: 0,
-    };
-    let usual = String::from_str(alloc, root)?;
-    let path = locate(alloc, source, &mut table.files, usual, root, None)?;
-    let index = file_at(alloc, source, &mut table.files, path.as_str(), None)?;
-    let file = OpenFile {
-        index,
-        path,
-        includers: Vec::new(alloc),
-        depth_left: MOST_DEPTH,
-    };
-    expand(alloc, source, &mut table, file.path.as_str(), &file)?;
-    Ok(Loaded {
-        files: table.files,
-        spans: table.spans,
-    })
+    let table = walk(alloc, source, root, Policy::Load)?;
+    Ok(Loaded::new(table.files, table.spans))
 }

@@ -3,7 +3,9 @@ ghost use Rattle.std.specs.Prelude.{◌≡◌, ◌∷◌, IfOk, map, string_byte
 ghost use Rattle.std.specs.List.{list_any};
 ghost use Rattle.std.specs.Str.{bytes_eq};
 ghost use Rattle.brl_lines.specs.Files.{chain_of};
+ghost use Rattle.brl_lines.specs.Views.{location_ref_view};
 
+use crate::fault::LocationRef;
 use std::alloc::{AllocError, Global};
 
 /// A file whose lines are being added.
@@ -24,6 +26,16 @@ impl OpenFile {
         ensures { result ≡ list_any (bytes_eq path.now) (chain_of self.now) }
     {
         path == self.path.as_str() || is_in(self.includers.as_slice(), path)
+    }
+
+    /// A line of the file.
+    pub(crate) fn place(&self, line: u32) -> LocationRef<'_>
+        ensures { location_ref_view result ≡ record { file = string_bytes self.now.path; line = line } }
+    {
+        LocationRef {
+            file: self.path.as_str(),
+            line,
+        }
     }
 
     /// The path of the file, before those that lead to it.

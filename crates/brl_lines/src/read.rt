@@ -1,8 +1,9 @@
 //! Reading the files of a table: each path once.
-ghost use Rattle.std.specs.Prelude.{◌≡◌, ◌≢◌, IfErr, IfOk, option_map, true};
+ghost use Rattle.std.specs.Prelude.{◌≡◌, ◌≢◌, IfErr, IfOk, option_map, string_bytes};
 ghost use Rattle.brl_failure.specs.Failure.{IfFault};
 ghost use Rattle.brl_lines.specs.Files.{answers_of};
-ghost use Rattle.brl_lines.specs.Lines.{text_of};
+ghost use Rattle.brl_lines.specs.GatherFaults.{held};
+ghost use Rattle.brl_lines.specs.Lines.{answer_at, text_of};
 ghost use Rattle.brl_lines.specs.Outcome.{AreGiven, CountsFailure};
 ghost use Rattle.brl_lines.specs.Steps.{Fails, Finds, FindsFile, IsMissingOr, Reads, Sees};
 ghost use Rattle.brl_lines.specs.Views.{location_ref_view};
@@ -18,7 +19,7 @@ use std::alloc::Global;
 pub(crate) type ReadFiles = IndexMap<String, Option<CheckedFile>>;
 
 /// Reads a file, and checks it whole. The place is the include line that names it.
-pub(crate) fn read_file<S: Source>(
+fn read_file<S: Source>(
     alloc: Global,
     source: &mut S,
     path: &str,
@@ -38,36 +39,32 @@ pub(crate) fn read_file<S: Source>(
     Err(refusal(alloc, kind, path, place))
 }
 
-/// That there is no file, where that may be and is the fault; else the fault.
-fn missing_or(
-    fault: LoadFault,
-    may_be_missing: bool,
-) -> Result<Option<CheckedFile>, Failure<LoadFault>>
-    ensures { IsMissingOr may_be_missing fault result }
+/// That there is no file, where that is the fault; else the fault.
+fn missing_or(fault: LoadFault) -> Result<Option<CheckedFile>, Failure<LoadFault>>
+    ensures { IsMissingOr fault result }
 {
     match fault.kind {
-        LoadFaultKind::NotFound if may_be_missing => Ok(None),
+        LoadFaultKind::NotFound => Ok(None),
         _ => Err(Failure::Fault(fault)),
     }
 }
 
-/// What is at a path: a file, which is read and checked whole, or none, where that may be. The
-/// place is the include line that names it.
-pub(crate) fn find_file<S: Source>(
+/// What is at a path: a file, which is read and checked whole, or none. The place is the include
+/// line that names it.
+fn find_file<S: Source>(
     alloc: Global,
     source: &mut S,
     path: &str,
     place: Option<LocationRef<'_>>,
-    may_be_missing: bool,
 ) -> Result<Option<CheckedFile>, Failure<LoadFault>>
     ensures found { FindsFile (S.gives source.old) path.now (option_map location_ref_view place.entry) result }
-    ensures missing { may_be_missing ≡ true → IfErr result (IfFault (λ fault. fault.kind ≢ LoadFaultKind.NotFound)) }
+    ensures missing { IfErr result (IfFault (λ fault. fault.kind ≢ LoadFaultKind.NotFound)) }
     ensures count { CountsFailure (S.faults source.old) (S.faults source.new) result }
     ensures same { S.gives source.new ≡ S.gives source.old }
 {
     match read_file(alloc, source, path, place) {
         Ok(file) => Ok(Some(file)),
-        Err(Failure::Fault(fault)) => missing_or(fault, may_be_missing),
+        Err(Failure::Fault(fault)) => missing_or(fault),
         Err(Failure::Memory) => Err(Failure::Memory),
     }
 }
@@ -90,7 +87,7 @@ pub(crate) fn look_at<S: Source>(
     if let Some(file) = files.get(path) {
         return Ok(file.is_some());
     }
-    let file = find_file(alloc, source, path, place, true)?;
+    let file = find_file(alloc, source, path, place)?;
     let there = file.is_some();
     files.insert(String::from_str(alloc, path)?, file)?;
     Ok(there)
@@ -119,4 +116,15 @@ pub(crate) fn file_at<S: Source>(
     let index = files.len();
     files.insert(String::from_str(alloc, path)?, Some(file))?;
     Ok(index)
+}
+
+/// The file at a path, where it was read and is there.
+pub(crate) fn file_there<'a>(files: &'a ReadFiles, path: &str) -> Option<&'a CheckedFile>
+    ensures { option_map (λ file. string_bytes file.now.whole) result ≡ held (answer_at (answers_of files.entry.now.entries) path.now) }
+{
+    match files.get(path) {
+        Some(Some(file)) => Some(file),
+        Some(None) => None,
+        None => None,
+    }
 }

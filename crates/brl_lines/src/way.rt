@@ -1,28 +1,36 @@
-//! The way through the files of a table that are known, one include line after the other.
-ghost use Rattle.std.specs.Prelude.{◌≡◌, IfOk, OnOk, map, option_map, string_bytes};
-ghost use Rattle.brl_failure.specs.Failure.{GivesAs, IfFault};
-ghost use Rattle.brl_lines.specs.Gathered.{IsTaken, known_answer, stop_view, way_view};
+//! The way of a walk through the files of a table: the files that it came through, and the include
+//! lines that weren't followed.
+ghost use Rattle.std.specs.Prelude.{◌≡◌, IfOk, None, OnOk, Some, false, if◌then◌else◌, length, nat_lt};
+ghost use Rattle.std.specs.List.{list_any};
+ghost use Rattle.std.specs.Str.{bytes_eq};
+ghost use Rattle.brl_lines.specs.Gathered.{way_view};
 ghost use Rattle.brl_lines.specs.Gathering.{
   is_dictionary as is_dictionary_name,
   is_plain as is_plain_name,
   is_plain_part as is_plain_part_of,
-  no_way,
-  stop as stop_of,
-  through as through_file,
-  with_left,
-  with_name,
-  include_view,
 };
-ghost use Rattle.brl_lines.specs.Views.{location_ref_view, location_view};
+ghost use Rattle.brl_lines.specs.Lines.{gathers as gathers_by, most_includes, no_way, passed, with_file, with_left, with_out};
+ghost use Rattle.brl_lines.specs.Views.{location_ref_view};
 
-use crate::fault::{Location, LocationRef, owned_place};
-use crate::finding::found_by;
-use crate::include::{IncludeLine, included};
-use crate::known::{Known, file_at_path, is_missing};
+use crate::fault::LocationRef;
+use crate::gathering::LeadsOut;
 use crate::open_file::is_in;
-use brl_failure::Failure;
-use indexmap::IndexMap;
 use std::alloc::{AllocError, Global};
+
+/// The most include lines that are followed in one walk.
+const MOST_INCLUDES: usize = 1024;
+
+/// Which include lines of a table are followed.
+#[derive(Clone, Copy)]
+pub(crate) enum Policy {
+    /// All of them.
+    Load,
+    /// None of a hyphenation dictionary.
+    SkipDictionaries,
+    /// Nor one of a file that isn't there, or that was gone through before; and none after one that
+    /// leads out of the root's folder.
+    Gather,
+}
 
 /// Why an include line is left out.
 #[derive(Clone, Copy, Debug, PartialEq, Eq)]
@@ -45,33 +53,34 @@ pub struct LeftInclude {
     pub reason: IncludeReason,
 }
 
-/// The way so far: of the files that it went through, the paths where they were found and the names
-/// by which they were looked for; and the include lines that were left out; all in order.
+/// Where an include line is, and the name in it.
+#[derive(Clone, Copy)]
+pub(crate) struct IncludeRef<'a> {
+    pub place: LocationRef<'a>,
+    pub name: &'a str,
+}
+
+/// What a walk came through: of the files, the paths where they were found and the names by which
+/// they were looked for; the include lines that are left out; and the one that leads out of the
+/// root's folder; all in order.
 #[derive(Drop)]
 pub(crate) struct Way {
     pub paths: Vec<String>,
     pub names: Vec<String>,
     pub left_out: Vec<LeftInclude>,
+    pub out: Option<LeadsOut>,
 }
 
-/// Why a way ends early.
-#[derive(Clone, Copy)]
-pub(crate) enum StopKind {
-    /// It isn't known that there is a file at the path.
-    Unknown,
-    /// The name in an include line leads out of the root's folder.
-    LeadsOut,
-    /// The file at the path would be too deep.
-    TooDeep,
-}
-
-/// Where a way ends early, and why: at the file at a path, or at a name in an include line; and
-/// that line, where it isn't the root.
-#[derive(Drop)]
-pub(crate) struct Stop {
-    pub kind: StopKind,
-    pub subject: String,
-    pub place: Option<Location>,
+impl Policy {
+    /// Whether files are gathered.
+    pub(crate) fn gathers(self) -> bool
+        ensures { result ≡ gathers_by self }
+    {
+        match self {
+            Policy::Load | Policy::SkipDictionaries => false,
+            Policy::Gather => true,
+        }
+    }
 }
 
 impl Way {
@@ -83,89 +92,96 @@ impl Way {
             paths: Vec::new(alloc),
             names: Vec::new(alloc),
             left_out: Vec::new(alloc),
+            out: None,
         }
     }
 
-    /// Adds the name of a file to which it leads.
-    pub(crate) fn add_name(&mut self, alloc: Global, name: &str) -> Result<(), AllocError>
-        ensures { OnOk result (way_view self.new ≡ with_name (way_view self.old) name.now) }
+    /// Adds the file at a path, which was looked for by a name.
+    pub(crate) fn add_file(
+        &mut self,
+        alloc: Global,
+        path: &str,
+        name: &str,
+    ) -> Result<(), AllocError>
+        ensures { OnOk result (way_view self.new ≡ with_file path.now name.now (way_view self.old)) }
     {
+        self.paths.push(String::from_str(alloc, path)?)?;
         self.names.push(String::from_str(alloc, name)?)?;
         Ok(())
     }
 
-    /// Leaves an include line of a file out.
-    fn leave(
+    /// Leaves an include line out.
+    pub(crate) fn leave(
         &mut self,
         alloc: Global,
-        file: &str,
-        include: &IncludeLine,
+        include: IncludeRef<'_>,
         reason: IncludeReason,
     ) -> Result<(), AllocError>
-        ensures { OnOk result (way_view self.new ≡ with_left (way_view self.old) file.now (include_view include.now) reason) }
+        ensures { OnOk result (way_view self.new ≡ with_left (location_ref_view include.entry.place) include.entry.name.now reason (way_view self.old)) }
     {
-        let file = String::from_str(alloc, file)?;
-        let name = String::from_str(alloc, include.name.as_str())?;
+        let file = String::from_str(alloc, include.place.file)?;
+        let name = String::from_str(alloc, include.name)?;
         self.left_out.push(LeftInclude {
             file,
-            line: include.line,
+            line: include.place.line,
             name,
             reason,
         })?;
         Ok(())
     }
-}
 
-impl Stop {
-    /// The include line where the way ended, where it isn't the root.
-    pub(crate) fn place_ref(&self) -> Option<LocationRef<'_>>
-        ensures { option_map location_ref_view result ≡ option_map location_view self.now.place }
+    /// Ends at an include line that leads out.
+    fn end(&mut self, alloc: Global, include: IncludeRef<'_>) -> Result<(), AllocError>
+        ensures { OnOk result (way_view self.new ≡ with_out (location_ref_view include.entry.place) include.entry.name.now (way_view self.old)) }
     {
-        match &self.place {
-            None => None,
-            Some(place) => Some(LocationRef {
-                file: place.file.as_str(),
-                line: place.line,
-            }),
+        let name = String::from_str(alloc, include.name)?;
+        let place = include.place.copy(alloc)?;
+        self.out = Some(LeadsOut { name, place });
+        Ok(())
+    }
+
+    /// Passes an include line, if it isn't to be looked for, and notes why. Whether it did.
+    pub(crate) fn passes(
+        &mut self,
+        alloc: Global,
+        policy: Policy,
+        include: IncludeRef<'_>,
+    ) -> Result<bool, AllocError>
+        ensures is { IfOk result (λ is. passed policy (location_ref_view include.entry.place) include.entry.name.now (way_view self.old) ≡ if is then Some (way_view self.new) else None) }
+        ensures same { IfOk result (λ is. is ≡ false → way_view self.new ≡ way_view self.old) }
+    {
+        match policy {
+            Policy::Load => Ok(false),
+            Policy::Gather if self.out.is_some() => Ok(true),
+            Policy::SkipDictionaries | Policy::Gather if is_dictionary(include.name) => {
+                self.leave(alloc, include, IncludeReason::Dictionary)?;
+                Ok(true)
+            }
+            Policy::Gather if !is_plain(include.name) => {
+                self.end(alloc, include)?;
+                Ok(true)
+            }
+            Policy::SkipDictionaries | Policy::Gather => Ok(false),
         }
     }
-}
 
-/// A stop with copies of its subject and place, or `Memory` where there is none for them.
-fn stop_at(
-    alloc: Global,
-    kind: StopKind,
-    subject: &str,
-    place: Option<LocationRef<'_>>,
-) -> Failure<Stop>
-    ensures { IfFault (λ found. stop_of kind subject.now (option_map location_ref_view place.entry) ≡ stop_view found) result }
-{
-    match new_stop(alloc, kind, subject, place) {
-        Ok(stop) => Failure::Fault(stop),
-        Err(_) => Failure::Memory,
+    /// Whether no more include lines are followed.
+    pub(crate) fn is_full(&self) -> bool
+        ensures { result ≡ nat_lt most_includes (length (way_view self.now).paths) }
+    {
+        self.paths.len() > MOST_INCLUDES
     }
-}
 
-/// A stop with copies of its subject and place.
-fn new_stop(
-    alloc: Global,
-    kind: StopKind,
-    subject: &str,
-    place: Option<LocationRef<'_>>,
-) -> Result<Stop, AllocError>
-    ensures { IfOk result (λ found. stop_of kind subject.now (option_map location_ref_view place.entry) ≡ stop_view found) }
-{
-    let subject = String::from_str(alloc, subject)?;
-    let place = owned_place(alloc, place)?;
-    Ok(Stop {
-        kind,
-        subject,
-        place,
-    })
+    /// Whether it came through the file at a path.
+    pub(crate) fn has(&self, path: &str) -> bool
+        ensures { result ≡ list_any (bytes_eq path.now) (way_view self.now).paths }
+    {
+        is_in(self.paths.as_slice(), path)
+    }
 }
 
 /// Whether a name is that of a hyphenation dictionary.
-pub(crate) fn is_dictionary(name: &str) -> bool
+fn is_dictionary(name: &str) -> bool
     ensures { result ≡ is_dictionary_name name.now }
 {
     name.ends_with(".dic")
@@ -179,82 +195,8 @@ fn is_plain_part(part: &str) -> bool
 }
 
 /// Whether a name is one of a file below a folder.
-pub(crate) fn is_plain(name: &str) -> bool
+fn is_plain(name: &str) -> bool
     ensures { result ≡ is_plain_name name.now }
 {
     name.split('/').all(|part| is_plain_part(part))
-}
-
-/// Takes an include line of a file: it is left out, or the way goes on through the file at the path
-/// that is returned, and has its name.
-fn take(
-    alloc: Global,
-    known: &IndexMap<String, Known>,
-    folders: &[String],
-    root: &str,
-    file: &str,
-    include: &IncludeLine,
-    way: &mut Way,
-) -> Result<Option<String>, Failure<Stop>>
-    ensures { IsTaken (map string_bytes folders.now) (known_answer known.now.entries) root.now file.now (include_view include.now) (way_view way.old) (way_view way.new) result }
-{
-    let name = include.name.as_str();
-    if is_dictionary(name) {
-        way.leave(alloc, file, include, IncludeReason::Dictionary)?;
-        return Ok(None);
-    }
-    if !is_plain(name) {
-        let place = Some(LocationRef {
-            file,
-            line: include.line,
-        });
-        return Err(stop_at(alloc, StopKind::LeadsOut, name, place));
-    }
-    let usual = included(alloc, root, name)?;
-    let path = found_by(alloc, known, folders, usual.as_str(), name)?;
-    if is_in(way.paths.as_slice(), path.as_str()) {
-        way.leave(alloc, file, include, IncludeReason::Repeated)?;
-        return Ok(None);
-    }
-    if is_missing(known, path.as_str()) {
-        way.leave(alloc, file, include, IncludeReason::Missing)?;
-        return Ok(None);
-    }
-    way.add_name(alloc, name)?;
-    Ok(Some(path))
-}
-
-/// Goes on through the file at a path, by what is known of paths, where files are looked for in
-/// folders too. This many files may lead down from it, itself counted.
-pub(crate) fn through(
-    alloc: Global,
-    known: &IndexMap<String, Known>,
-    folders: &[String],
-    root: &str,
-    depth: u32,
-    place: Option<LocationRef<'_>>,
-    path: &str,
-    way: &mut Way,
-) -> Result<(), Failure<Stop>>
-    ensures { GivesAs (λ _. way_view way.new) stop_view
-        (through_file depth (map string_bytes folders.now) (known_answer known.now.entries) root.now (option_map location_ref_view place.entry) path.now (way_view way.old)) result }
-{
-    if depth == 0 {
-        return Err(stop_at(alloc, StopKind::TooDeep, path, place));
-    }
-    let Some(file) = file_at_path(known, path) else {
-        return Err(stop_at(alloc, StopKind::Unknown, path, place));
-    };
-    way.paths.push(String::from_str(alloc, path)?)?;
-    for include in &file.includes {
-        if let Some(next) = take(alloc, known, folders, root, path, include, way)? {
-            let place = Some(LocationRef {
-                file: path,
-                line: include.line,
-            });
-            let next = next.as_str();
-            through(alloc, known, folders, root, depth - 1, place, next, way)?;
-        }
-    }
-    Ok(())
 }

@@ -3,8 +3,8 @@ use Rattle.std.specs.Prelude.{ℕ, ◌≡◌, ◌==◌, ◌&&◌, Bool, false, i
 use Rattle.std.specs.List.Sorted.{IsPermutation, IsSorted}
 use Rattle.brl_lines.specs.Answer.{FileAnswers}
 use Rattle.brl_lines.specs.Gathering.{LeftView}
+use Rattle.brl_lines.specs.Skipping.{AreLinesWithout, IsUnloaded}
 use Rattle.brl_lines.specs.Tokens.{LineView}
-use Rattle.brl_cut.specs.Skipping.{AreLinesWithout, IsUnloaded}
 use Rattle.brl_slips.specs.Habits.{AreHabits}
 use Rattle.brl_slips.specs.Lines.{IsLexicon}
 use Rattle.brl_slips.specs.Order.{slip_cmp}

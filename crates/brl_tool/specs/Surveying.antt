@@ -5,6 +5,7 @@ use Rattle.std.specs.List.{list_all, list_any}
 use Rattle.std.specs.Option.{option_map_or}
 use Rattle.brl_lines.specs.Answer.{FileAnswers}
 use Rattle.brl_lines.specs.Gathering.{LeftView}
+use Rattle.brl_lines.specs.Skipping.{AreLinesWithout, IsUnloaded}
 use Rattle.brl_lines.specs.Tokens.{LineView}
 use Rattle.brl_table.specs.Survey.{faulty_line_view, survey_of}
 use Rattle.brl_table.specs.declared.readable.Cut.{Cut}
@@ -12,7 +13,6 @@ use Rattle.brl_acting.specs.WholeTable.{ActingView}
 use Rattle.brl_cli.specs.declared.command.AlphabetOption.TheVariants as options
 use Rattle.brl_cut.specs.Cuts.{IsCut, IsCutFault}
 use Rattle.brl_cut.specs.declared.outcome.CutTable.{CutTable}
-use Rattle.brl_cut.specs.Skipping.{AreLinesWithout, IsUnloaded}
 use Rattle.brl_report.specs.Survey.{IsSurveyText, skipped_line}
 use Rattle.brl_answers.specs.Answers.{EndsAs, HasTextAndStatus, UnlessMemory}
 use Rattle.brl_answers.specs.Status.{of_cut_fault, status_of}

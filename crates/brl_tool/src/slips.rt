@@ -3,8 +3,7 @@ ghost use Rattle.std.specs.Prelude.{◌≡◌, IfOk};
 ghost use Rattle.brl_tool.specs.Slipping.{IsSlipsAnswer, ListsSlips, status_of_slips};
 
 use brl_answers::{Answer, RunFault, Status};
-use brl_cut::load_without_dictionaries;
-use brl_lines::{Loaded, Source};
+use brl_lines::{Loaded, Source, load_without_dictionaries};
 use brl_slips::{Findings, find_slips, read_lexicon, slips_columns, slips_text};
 use std::alloc::{AllocError, Global};
 

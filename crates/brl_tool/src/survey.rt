@@ -2,7 +2,7 @@
 ghost use Rattle.std.specs.Prelude.{◌≡◌, ◌++◌, IfErr, IfOk, OnOk, Some, map, string_bytes};
 ghost use Rattle.brl_failure.specs.Failure.{IfFault};
 ghost use Rattle.brl_lines.specs.Gathered.{left_view};
-ghost use Rattle.brl_cut.specs.Skipping.{IsUnloaded};
+ghost use Rattle.brl_lines.specs.Skipping.{IsUnloaded};
 ghost use Rattle.brl_table.specs.Survey.{survey_of};
 ghost use Rattle.brl_report.specs.Survey.{IsSurveyText};
 ghost use Rattle.brl_acting.specs.WholeTable.{acting_view};
@@ -21,9 +21,11 @@ use crate::remarks::write_remarks;
 use crate::suspects::{has_unknown_opcode, is_suspect};
 use brl_answers::{Answer, RunFault, Status};
 use brl_cli::AlphabetOption;
-use brl_cut::{Cut, CutTable, WithoutDictionaries, cut_table, load_without_dictionaries};
+use brl_cut::{Cut, CutTable, cut_table};
 use brl_failure::Failure;
-use brl_lines::{LeftInclude, LoadFault, Loaded, Source};
+use brl_lines::{
+    LeftInclude, LoadFault, Loaded, Source, WithoutDictionaries, load_without_dictionaries,
+};
 use brl_report::{report_of_cut, skipped_report, survey_report};
 use brl_rules::Table;
 use brl_table::{survey, table_of_loaded};

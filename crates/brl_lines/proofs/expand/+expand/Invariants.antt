@@ -8,7 +8,7 @@ decreases-expand g l = l.file.now.depth_left
 
 abbrev pub invariant-loop-row : goal.invariant-loop-row
 invariant-loop-row g l = record {
-  added : Added (g.S.Source.gives l.fn.source) l.root l.file l.fn.table l.table l.number l.at;
+  added : Added (g.S.Source.gives l.fn.source) l.policy l.root l.file l.fn.table l.table l.number l.at;
   count : g.S.Source.faults l.source ≡ g.S.Source.faults l.fn.source;
   same : g.S.Source.gives l.source ≡ g.S.Source.gives l.fn.source;
 }

@@ -1,16 +1,13 @@
 //! Cells, lines, tables and translation.
 use brl_acting::{ActingLine, Letters, acting_of_table};
 use brl_cells::{Cell, Cells, DotsFault, read_dots, to_ascii, to_unicode, write_dots};
-use brl_cut::{
-    Cut, CutFault, CutTable, WithoutDictionaries, cut_table, load_without_dictionaries, mark_lines,
-    written_root,
-};
+use brl_cut::{Cut, CutFault, CutTable, cut_table, mark_lines, written_root};
 use brl_failure::Failure;
 use brl_forward::{Clash, ConfirmFault, ForwardFault, Traced, confirm, trace, translate};
 use brl_lines::{
     CharsFault, FileSource, GatherFault, Gathered, GatheredFile, IncludeReason, LeftInclude, Line,
-    LoadFault, Loaded, MapSource, Source, SourceFault, Token, chars_of, folder, gather, last_part,
-    load,
+    LoadFault, Loaded, MapSource, Source, SourceFault, Token, WithoutDictionaries, chars_of,
+    folder, gather, last_part, load, load_without_dictionaries,
 };
 use brl_report::skipped_report;
 use brl_table::{

@@ -1,7 +1,7 @@
 use Rattle.std.proofs.lemmas.Result.{err_from_is_err_and}
 use Rattle.brl_answers.proofs.StepLemmas.{ends_as}
 use Rattle.brl_answers.specs.declared.run_fault.RunFault.TheVariants.{Load}
-use Rattle.brl_cut.specs.Skipping.{IsUnloaded}
+use Rattle.brl_lines.specs.Skipping.{IsUnloaded}
 use Rattle.brl_tool.proofs.survey.report_by.Goals as goal
 
 -- the table can't be loaded
