@@ -53,10 +53,10 @@ class Run(NamedTuple):
         return f"{self.seconds:.3f} s, {self.megabytes} MB: {self.line}"
 
 
-def run(words: list[object]) -> Run:
-    """Runs a command, for MOST_SECONDS at most: its processor seconds, its memory, its first line."""
-    with tempfile.TemporaryFile("w+") as out:
-        started = subprocess.Popen([str(it) for it in words], stdout=out, stderr=subprocess.DEVNULL)
+def run(words: list[object], given: str = os.devnull) -> Run:
+    """Runs a command on the input of a file, for MOST_SECONDS at most: its processor seconds, its memory, its first line."""
+    with open(given) as source, tempfile.TemporaryFile("w+", errors="replace") as out:
+        started = subprocess.Popen([str(it) for it in words], stdin=source, stdout=out, stderr=subprocess.DEVNULL)
         watch = threading.Timer(MOST_SECONDS, started.kill)
         watch.start()
         _, status, used = os.wait4(started.pid, 0)
@@ -81,9 +81,9 @@ class Bounded:
         return ran.returncode, ran.stdout, ran.stderr
 
 
-def best(words: list[object]) -> Run:
+def best(words: list[object], given: str = os.devnull) -> Run:
     """The run of three that took least; a long run is not repeated."""
-    runs = [run(words)]
+    runs = [run(words, given)]
     while len(runs) < 3 and runs[0].seconds < 60:
-        runs.append(run(words))
+        runs.append(run(words, given))
     return min(runs)

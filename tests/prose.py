@@ -45,7 +45,8 @@ PATH = re.compile(r"(?<![\w/.~$-])(?:docs|crates|tests|bench|tools|examples|comp
 PAGE = re.compile(r"(?<![\w/.-])[A-Z][A-Z_]+\.md\b")
 # Code in a line, or over the end of one, a link's target, and a comment.
 NO_PROSE = (r"(`+)(?:(?!\1)[^\n]|\n(?!\n))+?\1", r"\]\([^)\n]*\)", r"<!--(?:.|\n)*?-->")
-KIT = re.compile(r"rattle-kit-\w+(?: logic \w+)?")
+# A kit is named by its logic: what one kit proves another with the same logic does.
+KIT = re.compile(r"rattle-kit-\w+|\blogic [0-9a-f]{8,}")
 README = TOP / "README.md"
 # The name of an entry, empty where it has none, and one that is cited.
 ENTRY, CITED = re.compile(r"^- (?:\*([^*]+)\.\*$)?", re.MULTILINE), re.compile(r"DECISIONS(?:\.md)?, '([^']+)'")
@@ -280,8 +281,10 @@ def other_kits(it: Document) -> Faults:
         for kit in KIT.findall(line):
             if it.path != README:
                 yield number, "the kit is named in README.md alone"
-            elif here and kit != here:
+            elif here and kit not in here:
                 yield number, f"the kit is '{here}'"
+            elif not kit.startswith("logic"):
+                yield number, "the kit is named by its logic alone"
 
 
 CHECKS: dict[str, Callable[[Document], Faults]] = {

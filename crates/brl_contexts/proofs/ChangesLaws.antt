@@ -69,9 +69,9 @@ module _ (changes : List Change) (c : Change) (later : (i : ℕ) (d : Change) �
 
 -- ---- One form more
 
-module _ {S D : Type 0} (eq : S → S → Bool) (h : Sharing S D) (named : Named S) (s : S) (steps : List (Step S)) where
+module _ {S D : Type 0} (eq : S → S → Bool) (h : Sharing S D) (named : Named S D) (s : S) (steps : List (Step S)) where
   -- what is named still
-  pub still_changes : (new : Named S) → StillNames named new → (end : ℕ) (changes : List Change) → AreChangesBelow eq h named s steps end changes → AreChangesBelow eq h new s steps end changes
+  pub still_changes : (new : Named S D) → StillNames named new → (end : ℕ) (changes : List Change) → AreChangesBelow eq h named s steps end changes → AreChangesBelow eq h new s steps end changes
   still_changes new names end changes are = record {
     ascending = are.ascending;
     below = are.below;

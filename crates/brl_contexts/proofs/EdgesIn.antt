@@ -22,7 +22,7 @@ use Rattle.brl_pairs.proofs.ListedLaws.{listed_push, none_listed}
 use Rattle.brl_pairs.proofs.Lists.{inside}
 
 module _ {S : Type 0} (eq : S → S → Bool) (same : (a b : S) → eq a b ≡ true → a ≡ b) {D : Type 0} (m : Behaviour S) (h : Sharing S D) (keeps : KeepsSharing eq m h) (s base : S) (is_base : h.base s ≡ Some base)
-    (named : Named S) (forms : Forms) (are : AreForms h named (m.steps base) forms) (own : ByContext) (opens : own.opens.items ≡ map (h.opens s) forms.gates.items)
+    (named : Named S D) (forms : Forms) (are : AreForms h named (m.steps base) forms) (own : ByContext) (opens : own.opens.items ≡ map (h.opens s) forms.gates.items)
     (changes : AreChangesBelow eq h named s (m.steps base) (length forms.edges.items) own.changes.items) where
   abbrev steps : List (Step S)
   steps = m.steps base

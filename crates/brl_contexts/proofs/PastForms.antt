@@ -14,7 +14,7 @@ use Rattle.brl_pairs.specs.declared.step.Step.{Step}
 use Rattle.brl_pairs.proofs.Lists.{inside, mapped_at, same_place}
 
 -- the step of the base, and the edge
-pub record IsForm {S : Type 0} (named : Named S) (steps : List (Step S)) (forms : Forms) (form : ℕ) : Type 0 where
+pub record IsForm {S D : Type 0} (named : Named S D) (steps : List (Step S)) (forms : Forms) (form : ℕ) : Type 0 where
   pub step : Step S
   pub step_at : slice_get steps form ≡ Some step
   pub edge : ListedEdge
@@ -22,7 +22,7 @@ pub record IsForm {S : Type 0} (named : Named S) (steps : List (Step S)) (forms 
   pub numbers : IsByNumbers named.states named.cells step edge
   pub reads_at : slice_get forms.reads.items form ≡ Some step.reads
 
-module _ {S D : Type 0} (m : Behaviour S) (h : Sharing S D) (named : Named S) (number : ℕ) (forms : Forms) (shared : IsShared m h named number forms) where
+module _ {S D : Type 0} (m : Behaviour S) (h : Sharing S D) (named : Named S D) (number : ℕ) (forms : Forms) (shared : IsShared m h named number forms) where
   pub form_of : (form : ℕ) → form < length forms.edges.items → IsForm named (m.steps shared.base) forms form
   form_of form less =
       let count = shared.are_forms.edges.count in
@@ -64,12 +64,12 @@ module _ {S D : Type 0} (m : Behaviour S) (h : Sharing S D) (named : Named S) (n
         )
 
 -- a result, by what is left
-pub broken_past : {S D : Type 0} (h : Sharing S D) (named : Named S) (x : Step S) (p : Past D) → p ≡ Broken → IsLeftPast h named x p Broken
+pub broken_past : {S D : Type 0} (h : Sharing S D) (named : Named S D) (x : Step S) (p : Past D) → p ≡ Broken → IsLeftPast h named x p Broken
 broken_past h named x p is = subst (λ q. IsLeftPast h named x q Broken) (sym is) refl
 
-pub same_past : {S D : Type 0} (h : Sharing S D) (named : Named S) (x : Step S) (p : Past D) → p ≡ Same → IsLeftPast h named x p Same
+pub same_past : {S D : Type 0} (h : Sharing S D) (named : Named S D) (x : Step S) (p : Past D) → p ≡ Same → IsLeftPast h named x p Same
 same_past h named x p is = subst (λ q. IsLeftPast h named x q Same) (sym is) refl
 
-pub more_past : {S D : Type 0} (h : Sharing S D) (named : Named S) (x : Step S) (p : Past D) (more : D) (number : ℕ) → p ≡ More more → slice_get named.states number ≡ Some (h.owing x.next more)
+pub more_past : {S D : Type 0} (h : Sharing S D) (named : Named S D) (x : Step S) (p : Past D) (more : D) (number : ℕ) → p ≡ More more → slice_get named.states number ≡ Some (h.owing x.next more)
     → IsLeftPast h named x p (More number)
 more_past h named x p more number is there = subst (λ q. IsLeftPast h named x q (More number)) (sym is) (number, refl, there)

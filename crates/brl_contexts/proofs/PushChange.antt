@@ -17,7 +17,7 @@ use Rattle.brl_pairs.specs.declared.step.Step.{Step}
 use Rattle.brl_pairs.proofs.Lists.{same_place}
 
 -- what is right for a state and its base is right for the state with a number
-pub for_all : {S D : Type 0} (eq : S → S → Bool) (m : Behaviour S) (h : Sharing S D) (named : Named S) (number end : ℕ) (changes : List Change) (state root : S) → slice_get named.states number ≡ Some state
+pub for_all : {S D : Type 0} (eq : S → S → Bool) (m : Behaviour S) (h : Sharing S D) (named : Named S D) (number end : ℕ) (changes : List Change) (state root : S) → slice_get named.states number ≡ Some state
     → h.base state ≡ Some root → AreChangesBelow eq h named state (m.steps root) end changes → AreChangesTo eq m h named number end changes
 for_all eq m h named number end changes state root at is below s base s_at s_is =
     let same : state ≡ s = same_place named.states number state s at s_at in
@@ -26,7 +26,7 @@ for_all eq m h named number end changes state root at is below s base s_at s_is 
     subst (λ t. AreChangesBelow eq h named t (m.steps base) end changes) same (subst (λ b. AreChangesBelow eq h named state (m.steps b) end changes) bases below)
 
 -- what is left past a step, by what was found
-module _ {S D : Type 0} (h : Sharing S D) (named : Named S) (x : Step S) where
+module _ {S D : Type 0} (h : Sharing S D) (named : Named S D) (x : Step S) where
   left_broken : (p : Past D) → IsLeftPast h named x p Broken → p ≡ Broken
   left_broken Broken l = refl
   left_broken Same l = (let wrong : ◌≡◌ {A = Past ℕ} Broken Same = l in cc)
@@ -43,7 +43,7 @@ module _ {S D : Type 0} (h : Sharing S D) (named : Named S) (x : Step S) where
   left_more (More more) number l = (let both : More number ≡ More l.0 = l.1 in let is : number ≡ l.0 = cc in (more, refl, subst (λ n. slice_get named.states n ≡ Some (h.owing x.next more)) (sym is) l.2))
 
 module _ {S : Type 0} (eq : S → S → Bool) (same : (a b : S) → eq a b ≡ true → a ≡ b) (itself : (a : S) → eq a a ≡ true) {D : Type 0} (m : Behaviour S) (h : Sharing S D) (laws : KeepsLaws m) (keeps : KeepsSharing eq m h)
-    (s base : S) (is_base : h.base s ≡ Some base) (named : Named S) (forms : Forms) (are : AreForms h named (m.steps base) forms) (one : HaveOneNumber named.states)
+    (s base : S) (is_base : h.base s ≡ Some base) (named : Named S D) (forms : Forms) (are : AreForms h named (m.steps base) forms) (one : HaveOneNumber named.states)
     (k : ℕ) (changes : List Change) (below : AreChangesBelow eq h named s (m.steps base) k changes) (past : Past ℕ)
     (left : (x : Step S) → slice_get (m.steps base) k ≡ Some x → IsLeftPast h named x (h.past s x.reads x.next) past) where
   pub same_changes : past ≡ Same → AreChangesBelow eq h named s (m.steps base) (k + 1) changes

@@ -5,7 +5,7 @@ use Rattle.std.proofs.lemmas.Option.{get_or_from_slice_get, slice_get_within}
 use Rattle.brl_contexts.specs.Changes.{AreChangesBelow, IsShared}
 use Rattle.brl_contexts.specs.Forms.{AreForms}
 use Rattle.brl_contexts.specs.Met.{AreBarsAt, AreMetByForm}
-use Rattle.brl_contexts.specs.Named.{StillNames}
+use Rattle.brl_contexts.specs.Named.{AreCarried, StillNames}
 use Rattle.brl_contexts.specs.declared.changes.Change.{Change}
 use Rattle.brl_contexts.specs.declared.forms.Forms.{Forms}
 use Rattle.brl_contexts.specs.declared.met.Met.{Met}
@@ -21,8 +21,10 @@ use Rattle.brl_pairs.specs.declared.step.Step.{Step}
 use Rattle.brl_pairs.proofs.Lists.{inside, mapped_at, read_at}
 
 -- a state and its base stay where states and cells are added
-abbrev pub still_shared : {S D : Type 0} (m : Behaviour S) (h : Sharing S D) (old new : Named S) → StillNames old new → (number : ℕ) (forms : Forms) → IsShared m h old number forms → IsShared m h new number forms
-still_shared m h old new names number forms shared = record {
+abbrev pub still_shared : {S D : Type 0} (m : Behaviour S) (h : Sharing S D) (old new : Named S D) → StillNames old new → AreCarried h new → (number : ℕ) (forms : Forms)
+    → IsShared m h old number forms → IsShared m h new number forms
+still_shared m h old new names carried number forms shared = record {
+  are_carried = carried;
   state = shared.state;
   base = shared.base;
   at = names.states number shared.state shared.at;
@@ -31,7 +33,7 @@ still_shared m h old new names number forms shared = record {
 }
 
 -- a form, by its number
-module _ {S D : Type 0} (h : Sharing S D) (named : Named S) (steps : List (Step S)) (forms : Forms) (are : AreForms h named steps forms) where
+module _ {S D : Type 0} (h : Sharing S D) (named : Named S D) (steps : List (Step S)) (forms : Forms) (are : AreForms h named steps forms) where
   pub many_reads : length forms.reads.items ≡ length forms.edges.items
   many_reads = ap length are.reads ∙ length-map steps (λ (x : Step S). x.reads) ∙ sym are.edges.count
 
@@ -45,7 +47,7 @@ module _ {S D : Type 0} (h : Sharing S D) (named : Named S) (steps : List (Step 
       ap (λ (l : List Bool). slice_get l place) is ∙ mapped_at (h.opens s) forms.gates.items place (h.gate chars) (are.gates.each k chars place chars_at place_at)
 
 module _ {S : Type 0} (eq : S → S → Bool) (same : (a b : S) → eq a b ≡ true → a ≡ b) (itself : (a : S) → eq a a ≡ true) {D : Type 0} (m : Behaviour S) (h : Sharing S D) (laws : KeepsLaws m) (keeps : KeepsSharing eq m h)
-    (s base : S) (is_base : h.base s ≡ Some base) (named : Named S) (forms : Forms) (are : AreForms h named (m.steps base) forms) where
+    (s base : S) (is_base : h.base s ≡ Some base) (named : Named S D) (forms : Forms) (are : AreForms h named (m.steps base) forms) where
   -- forms that no bar meets stay as they are
   pub skip : (n a : ℕ) (changes : List Change) → ((form : ℕ) → a ≤ form → form < a + n → meeting (h.bars s) (sequence_at forms.reads.items form) ≡ [])
       → AreChangesBelow eq h named s (m.steps base) a changes → AreChangesBelow eq h named s (m.steps base) (a + n) changes
@@ -84,7 +86,7 @@ module _ {S : Type 0} (eq : S → S → Bool) (same : (a b : S) → eq a b ≡ t
         (λ form low high. none_between (h.bars s) forms.reads.items met are_met from bars here passed form (omega (arith, low)) high) below
 
 -- the form of a group, and its gate
-module _ {S D : Type 0} (h : Sharing S D) (named : Named S) (steps : List (Step S)) (forms : Forms) (are : AreForms h named steps forms) (s : S) (opens : List Bool) (opens_are : opens ≡ map (h.opens s) forms.gates.items)
+module _ {S D : Type 0} (h : Sharing S D) (named : Named S D) (steps : List (Step S)) (forms : Forms) (are : AreForms h named steps forms) (s : S) (opens : List Bool) (opens_are : opens ≡ map (h.opens s) forms.gates.items)
     (met : List Met) (are_met : AreMetByForm (h.bars s) forms.reads.items met) (from : ℕ) (less : from < length met) where
   abbrev pub form_at : ℕ
   form_at = (get_or met from (record { form = 0; bar = 0 })).form

@@ -21,7 +21,7 @@ use Rattle.brl_contexts.proofs.SameSteps.{alone}
 use Rattle.brl_pairs.proofs.Listing.{IsIn}
 use Rattle.brl_pairs.proofs.Lists.{inside, mapped_at, same_place}
 
-module _ {S D : Type 0} (h : Sharing S D) (named : Named S) (steps : List (Step S)) (forms : Forms) (are : AreForms h named steps forms) where
+module _ {S D : Type 0} (h : Sharing S D) (named : Named S D) (steps : List (Step S)) (forms : Forms) (are : AreForms h named steps forms) where
   edge_of : (k : ℕ) (x : Step S) → slice_get steps k ≡ Some x → (e : ListedEdge) × (slice_get forms.edges.items k ≡ Some e)
   edge_of k x at = (let within = slice_get_within steps k x at in let count = are.edges.count in inside forms.edges.items k (omega (arith, within, count)))
 
@@ -83,7 +83,7 @@ module _ {S D : Type 0} (h : Sharing S D) (named : Named S) (steps : List (Step 
 -- ---- Repeated
 
 module _ {S : Type 0} (eq : S → S → Bool) (same : (a b : S) → eq a b ≡ true → a ≡ b) (itself : (a : S) → eq a a ≡ true) {D : Type 0} (m : Behaviour S) (h : Sharing S D) (laws : KeepsLaws m) (keeps : KeepsSharing eq m h)
-    (s base : S) (is_base : h.base s ≡ Some base) (named : Named S) (forms : Forms) (are : AreForms h named (m.steps base) forms) (one : HaveOneNumber named.states)
+    (s base : S) (is_base : h.base s ≡ Some base) (named : Named S D) (forms : Forms) (are : AreForms h named (m.steps base) forms) (one : HaveOneNumber named.states)
     (k : ℕ) (x : Step S) (more : D) (at : slice_get (m.steps base) k ≡ Some x) (through : h.opens s (h.gate x.reads) ≡ true) (is : h.past s x.reads x.next ≡ More more)
     (number : ℕ) (number_at : slice_get named.states number ≡ Some (h.owing x.next more)) (changes : List Change) (below : AreChangesBelow eq h named s (m.steps base) k changes) where
   abbrev z : Step S

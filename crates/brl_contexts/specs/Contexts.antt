@@ -3,7 +3,7 @@ use Rattle.std.specs.Prelude.{◌≡◌, ℕ, ◌<◌, false, List, [], ◌∷�
 use Rattle.std.specs.List.{range_with_len}
 use Rattle.brl_contexts.specs.Changes.{change_of}
 use Rattle.brl_contexts.specs.Forms.{AreForms}
-use Rattle.brl_contexts.specs.Named.{StillNames, Stays}
+use Rattle.brl_contexts.specs.Named.{AreCarried, StillNames, Stays}
 use Rattle.brl_contexts.specs.declared.changes.Change.{Change}
 use Rattle.brl_contexts.specs.declared.contexts.ByContext.{ByContext}
 use Rattle.brl_contexts.specs.declared.contexts.Contexts.{Contexts}
@@ -17,27 +17,30 @@ use Rattle.brl_pairs.specs.declared.edge.ListedEdge.{ListedEdge}
 
 -- ---- Contexts
 
--- no states, no cells, no contexts
-pub record IsEmpty {S : Type 0} (contexts : Contexts S) : Type 0 where
+-- no states, no cells, no contexts, and nothing is kept of more that is due
+pub record IsEmpty {S D : Type 0} (contexts : Contexts S D) : Type 0 where
   pub states : contexts.named.states ≡ []
   pub cells : contexts.named.cells ≡ []
+  pub carried : contexts.named.carried ≡ []
+  pub owing : contexts.named.owing.items ≡ []
   pub bases : contexts.bases ≡ []
   pub forms : contexts.forms.items ≡ []
 
--- each base has its forms
-pub record AreContexts {S D : Type 0} (m : Behaviour S) (h : Sharing S D) (contexts : Contexts S) : Type 0 where
+-- each base has its forms, and what is kept of more that is due is right
+pub record AreContexts {S D : Type 0} (m : Behaviour S) (h : Sharing S D) (contexts : Contexts S D) : Type 0 where
   pub count : length contexts.forms.items ≡ length contexts.bases
   pub each : (number : ℕ) (base : S) (forms : Forms) → slice_get contexts.bases number ≡ Some base → slice_get contexts.forms.items number ≡ Some forms
       → AreForms h contexts.named (m.steps base) forms
+  pub are_carried : AreCarried h contexts.named
 
 -- what had a number has it still, and contexts keep their forms
-pub record StillKnows {S : Type 0} (old new : Contexts S) : Type 0 where
+pub record StillKnows {S D : Type 0} (old new : Contexts S D) : Type 0 where
   pub names : StillNames old.named new.named
   pub bases : Stays old.bases new.bases
   pub forms : Stays old.forms.items new.forms.items
 
 -- the state with this number has the base of the context with that one
-pub record HasContext {S D : Type 0} (h : Sharing S D) (contexts : Contexts S) (context number : ℕ) : Type 0 where
+pub record HasContext {S D : Type 0} (h : Sharing S D) (contexts : Contexts S D) (context number : ℕ) : Type 0 where
   pub state : S
   pub base : S
   pub at : slice_get contexts.named.states number ≡ Some state
@@ -71,7 +74,7 @@ edges_of None own = []
 edges_of (Some forms) own = edges_in forms own
 
 -- the steps of an expanded state, by numbers
-abbrev pub edges_by : {S : Type 0} → Contexts S → Expanded → List ListedEdge
+abbrev pub edges_by : {S D : Type 0} → Contexts S D → Expanded → List ListedEdge
 edges_by contexts (steps.ByContext own) = edges_of (slice_get contexts.forms.items own.context) own
 edges_by contexts (steps.Own edges) = edges.items
 
@@ -85,12 +88,12 @@ pub record IsWithinForms (forms : Forms) (own : ByContext) : Type 0 where
   pub below : (i : ℕ) (c : Change) → slice_get own.changes.items i ≡ Some c → c.form < length forms.edges.items
 
 -- the context is there
-abbrev pub IsWithin : {S : Type 0} → Contexts S → Expanded → Type 0
+abbrev pub IsWithin : {S D : Type 0} → Contexts S D → Expanded → Type 0
 IsWithin contexts (steps.ByContext own) = (forms : Forms) × (slice_get contexts.forms.items own.context ≡ Some forms) × IsWithinForms forms own
 IsWithin contexts (steps.Own edges) = Unit {0}
 
 -- these are the steps of the state with this number
-pub record AreEdgesAt {S : Type 0} (m : Behaviour S) (contexts : Contexts S) (number : ℕ) (expanded : Expanded) : Type 0 where
+pub record AreEdgesAt {S D : Type 0} (m : Behaviour S) (contexts : Contexts S D) (number : ℕ) (expanded : Expanded) : Type 0 where
   pub within : IsWithin contexts expanded
   pub state : S
   pub at : slice_get contexts.named.states number ≡ Some state

@@ -23,7 +23,7 @@ pub record AreGates (gate : List ℕ → ℕ) (reads : List (List ℕ)) (gates p
   pub each : (form : ℕ) (chars : List ℕ) (place : ℕ) → slice_get reads form ≡ Some chars → slice_get places form ≡ Some place → slice_get gates place ≡ Some (gate chars)
 
 -- these are the forms of a base with these steps
-pub record AreForms {S D : Type 0} (h : Sharing S D) (named : Named S) (steps : List (Step S)) (forms : Forms) : Type 0 where
+pub record AreForms {S D : Type 0} (h : Sharing S D) (named : Named S D) (steps : List (Step S)) (forms : Forms) : Type 0 where
   pub edges : AreListedEdges named.states named.cells steps forms.edges.items
   pub reads : forms.reads.items ≡ reads_of steps
   pub order : IsOrderOf forms.reads.items forms.order

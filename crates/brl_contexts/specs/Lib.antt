@@ -1,3 +1,4 @@
+pub mod SameCarried
 pub mod Met
 pub mod Named
 pub mod Forms

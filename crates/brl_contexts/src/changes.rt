@@ -2,12 +2,12 @@
 ghost use Rattle.std.specs.Prelude.{◌≡◌, ◌↔◌, ◌<◌, ◌+◌, [], IfOk, IsTrue, OnOk, Some, length, map, slice_get};
 ghost use Rattle.brl_contexts.specs.Met.{AreMetByForm};
 ghost use Rattle.brl_contexts.specs.Changes.{AreAlike, AreChangesTo, AreMeeting, AreOpened, DoAscend, IsOpened, IsPastForm, IsRepeated, IsShared};
-ghost use Rattle.brl_contexts.specs.Named.{StillNames};
+ghost use Rattle.brl_contexts.specs.Named.{AreCarried, StillNames};
 ghost use Rattle.brl_pairs.specs.Members.{HaveOneNumber};
 
 use crate::forms::Forms;
 use crate::met::{Met, bars_at, met_by_form};
-use crate::named::Named;
+use crate::named::{Named, number_owing};
 use brl_cells::Cells;
 use brl_pairs::{Based, Past, as_u32, cells_at};
 use std::alloc::{AllocError, Global};
@@ -43,7 +43,7 @@ pub fn opened<B: Based>(
 pub fn changes_of<B: Based>(
     alloc: Global,
     machine: &B,
-    named: &mut Named<B::State>,
+    named: &mut Named<B::State, B::More>,
     forms: &Forms,
     state: usize,
     opens: &[bool],
@@ -52,6 +52,7 @@ pub fn changes_of<B: Based>(
     requires opens { AreOpened (B.sharing machine.now) named.old state forms.now opens.now }
     ensures changes { IfOk result (λ changes. AreChangesTo B.State.eq (B.behaviour machine.now) (B.sharing machine.now) named.new state (length forms.now.edges.items) changes.items) }
     ensures names { OnOk result (StillNames named.old named.new) }
+    ensures carried { OnOk result (AreCarried (B.sharing machine.now) named.new) }
 {
     let own = &named.states.as_slice()[state];
     let met = met_by_form(alloc, machine, own, forms.reads.as_slice(), &forms.order)?;
@@ -73,7 +74,7 @@ pub fn changes_of<B: Based>(
 fn push_changes<B: Based>(
     alloc: Global,
     machine: &B,
-    named: &mut Named<B::State>,
+    named: &mut Named<B::State, B::More>,
     forms: &Forms,
     state: usize,
     opens: &[bool],
@@ -86,6 +87,7 @@ fn push_changes<B: Based>(
     requires none { changes.old.items ≡ [] }
     ensures changes { OnOk result (AreChangesTo B.State.eq (B.behaviour machine.now) (B.sharing machine.now) named.new state (length forms.now.edges.items) changes.new.items) }
     ensures names { OnOk result (StillNames named.old named.new) }
+    ensures carried { OnOk result (AreCarried (B.sharing machine.now) named.new) }
 {
     machine.law();
     // For the laws of machines, which `start` ensures.
@@ -116,7 +118,7 @@ fn push_changes<B: Based>(
 fn push_change<B: Based>(
     alloc: Global,
     machine: &B,
-    named: &mut Named<B::State>,
+    named: &mut Named<B::State, B::More>,
     forms: &Forms,
     state: usize,
     form: usize,
@@ -130,6 +132,7 @@ fn push_change<B: Based>(
     requires below { AreChangesTo B.State.eq (B.behaviour machine.now) (B.sharing machine.now) named.old state form changes.old.items }
     ensures below { OnOk result (AreChangesTo B.State.eq (B.behaviour machine.now) (B.sharing machine.now) named.new state (form + 1) changes.new.items) }
     ensures names { OnOk result (StillNames named.old named.new) }
+    ensures carried { OnOk result (AreCarried (B.sharing machine.now) named.new) }
 {
     machine.law();
     // For the laws of machines, which `start` ensures.
@@ -152,7 +155,7 @@ fn push_change<B: Based>(
 fn past_form<B: Based>(
     alloc: Global,
     machine: &B,
-    named: &mut Named<B::State>,
+    named: &mut Named<B::State, B::More>,
     forms: &Forms,
     state: usize,
     form: usize,
@@ -164,18 +167,17 @@ fn past_form<B: Based>(
     ensures past { IfOk result (IsPastForm (B.behaviour machine.now) (B.sharing machine.now) named.new state forms.now form) }
     ensures one_number { OnOk result (HaveOneNumber named.new.states) }
     ensures names { OnOk result (StillNames named.old named.new) }
+    ensures carried { OnOk result (AreCarried (B.sharing machine.now) named.new) }
 {
+    let target = forms.edges[form].next;
     let own = &named.states.as_slice()[state];
-    let next = &named.states.as_slice()[forms.edges[form].next as usize];
+    let next = &named.states.as_slice()[target as usize];
     let more = match machine.past(alloc, own, bars, &forms.reads[form], next)? {
         Past::Broken => return Ok(Past::Broken),
         Past::Same => return Ok(Past::Same),
         Past::More(more) => more,
     };
-    let owing = machine.owing(alloc, next, &more)?;
-    let number = named.number_of(owing)?;
-    // That no state has two numbers is what `as_slice` ensures.
-    let _ = named.states.as_slice();
+    let number = number_owing(alloc, machine, named, target, more)?;
     Ok(Past::More(number))
 }
 

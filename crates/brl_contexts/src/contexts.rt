@@ -1,7 +1,7 @@
 //! Contexts, and the steps of states by them.
 ghost use Rattle.std.specs.Prelude.{◌≡◌, ◌<◌, ◌++◌, IfOk, OnOk, Some, length, option_map, slice_get};
 ghost use Rattle.brl_contexts.specs.Contexts.{AreContexts, AreEdgesAt, HasContext, IsChangeAt, IsEmpty, IsWithin, IsWithinForms, StillKnows, changed, edges_by, edges_in as edges_by_forms};
-ghost use Rattle.brl_contexts.specs.Named.{StillNames};
+ghost use Rattle.brl_contexts.specs.Named.{StillCarries, StillNames};
 ghost use Rattle.brl_contexts.specs.declared.contexts.Expanded.TheVariants as steps;
 ghost use Rattle.brl_pairs.specs.Listed.{AreListedEdges};
 
@@ -14,9 +14,9 @@ use std::alloc::{AllocError, Global};
 /// The contexts of a machine: the bases that its states have, each with its forms. States and cells
 /// have numbers here.
 #[derive(Drop)]
-pub struct Contexts<S: Key> {
+pub struct Contexts<S: Key, D: Key> {
     /// The states that are expanded or to which steps lead, and the cells that steps give.
-    pub named: Named<S>,
+    pub named: Named<S, D>,
     /// The bases, by the numbers of their contexts, from 0.
     pub bases: Members<S>,
     /// The forms of each base.
@@ -44,10 +44,10 @@ pub enum Expanded {
     Own(Vec<ListedEdge>),
 }
 
-impl<S: Key> Contexts<S> {
+impl<S: Key, D: Key> Contexts<S, D> {
     /// No contexts and no states, which will be found by hashes of this seed. No memory is
     /// allocated.
-    pub fn new(alloc: Global, seed: Seed) -> Contexts<S>
+    pub fn new(alloc: Global, seed: Seed) -> Contexts<S, D>
         ensures { IsEmpty result }
     {
         Contexts {
@@ -76,7 +76,7 @@ impl<S: Key> Contexts<S> {
 pub fn expand<B: Based>(
     alloc: Global,
     machine: &B,
-    contexts: &mut Contexts<B::State>,
+    contexts: &mut Contexts<B::State, B::More>,
     state: usize,
 ) -> Result<Expanded, AllocError>
     requires contexts { AreContexts (B.behaviour machine.now) (B.sharing machine.now) contexts.old }
@@ -102,7 +102,7 @@ pub fn expand<B: Based>(
 fn context_of<B: Based>(
     alloc: Global,
     machine: &B,
-    contexts: &mut Contexts<B::State>,
+    contexts: &mut Contexts<B::State, B::More>,
     base: B::State,
 ) -> Result<usize, AllocError>
     requires contexts { AreContexts (B.behaviour machine.now) (B.sharing machine.now) contexts.old }
@@ -124,7 +124,7 @@ fn context_of<B: Based>(
 fn expand_in<B: Based>(
     alloc: Global,
     machine: &B,
-    contexts: &mut Contexts<B::State>,
+    contexts: &mut Contexts<B::State, B::More>,
     context: usize,
     state: usize,
 ) -> Result<ByContext, AllocError>
@@ -157,13 +157,14 @@ fn expand_in<B: Based>(
 fn list_own<B: Based>(
     alloc: Global,
     machine: &B,
-    named: &mut Named<B::State>,
+    named: &mut Named<B::State, B::More>,
     state: usize,
 ) -> Result<Vec<ListedEdge>, AllocError>
     requires { state < length named.old.states }
     ensures edges { IfOk result (λ edges. (s : B.State) → slice_get named.new.states state ≡ Some s →
         AreListedEdges named.new.states named.new.cells ((B.behaviour machine.now).steps s) edges.items) }
     ensures names { OnOk result (StillNames named.old named.new) }
+    ensures carries { OnOk result (StillCarries named.old named.new) }
 {
     let steps = machine.moves(alloc, &named.states.as_slice()[state])?;
     let mut edges = Vec::with_capacity(alloc, steps.len())?;

@@ -4,7 +4,7 @@ ghost use Rattle.std.specs.List.{range_with_len};
 ghost use Rattle.std.specs.Cmp.Lexicographic.{slice_cmp};
 ghost use Rattle.std.specs.Ordering.{nat_cmp};
 ghost use Rattle.brl_contexts.specs.Forms.{AreForms, AreGates, HasAll, reads_of};
-ghost use Rattle.brl_contexts.specs.Named.{StillNames};
+ghost use Rattle.brl_contexts.specs.Named.{StillCarries, StillNames};
 ghost use Rattle.brl_pairs.specs.Listed.{AreListedEdges};
 ghost use Rattle.brl_pairs.specs.Order.{IsOrderOf, at as sequence_at};
 
@@ -34,11 +34,12 @@ pub struct Forms {
 pub fn list_forms<B: Based>(
     alloc: Global,
     machine: &B,
-    named: &mut Named<B::State>,
+    named: &mut Named<B::State, B::More>,
     base: &B::State,
 ) -> Result<Forms, AllocError>
     ensures forms { IfOk result (AreForms (B.sharing machine.now) named.new ((B.behaviour machine.now).steps base.now)) }
     ensures names { OnOk result (StillNames named.old named.new) }
+    ensures carries { OnOk result (StillCarries named.old named.new) }
 {
     let steps = machine.moves(alloc, base)?;
     let mut edges = Vec::with_capacity(alloc, steps.len())?;
@@ -58,8 +59,8 @@ pub fn list_forms<B: Based>(
 
 /// Steps by numbers, and what they read. Where they lead is added to the states, and their cells
 /// are kept.
-pub fn number_steps<S: Key>(
-    named: &mut Named<S>,
+pub fn number_steps<S: Key, D: Key>(
+    named: &mut Named<S, D>,
     steps: Vec<Step<S>>,
     edges: &mut Vec<ListedEdge>,
     reads: &mut Vec<Chars>,
@@ -69,6 +70,7 @@ pub fn number_steps<S: Key>(
     ensures edges { OnOk result (AreListedEdges named.new.states named.new.cells steps.items edges.new.items) }
     ensures reads { OnOk result (reads.new.items ≡ reads_of steps.items) }
     ensures names { OnOk result (StillNames named.old named.new) }
+    ensures carries { OnOk result (StillCarries named.old named.new) }
 {
     let mut likely = 0u32;
     for step in steps {

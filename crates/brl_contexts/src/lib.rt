@@ -8,6 +8,7 @@
 //! Room 2, any machine (docs/dev/ARCHITECTURE.md). The definitions begin in `specs/Contexts.antt`.
 #![tactic(auto)]
 
+mod carried;
 mod changes;
 mod contexts;
 mod forms;
@@ -15,6 +16,7 @@ mod laws;
 mod met;
 mod named;
 
+pub use carried::Carried;
 pub use changes::Change;
 pub use contexts::{ByContext, Contexts, Expanded, expand};
 pub use forms::Forms;

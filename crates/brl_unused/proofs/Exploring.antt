@@ -136,14 +136,18 @@ record IsStepOf {S : Type 0} (m : Behaviour S) (states : List S) (number : ℕ) 
   enters : slice_get states e.next ≡ Some taken.next
 
 -- the step is an edge of the state at this place
-record HasStep {S : Type 0} (f : FoundStates S) (place : ℕ) (x : Step S) : Type 0 where
+record HasStep {S D : Type 0} (f : FoundStates S D) (place : ℕ) (x : Step S) : Type 0 where
   edge : ListedEdge
   has : HasEdge f place edge
   of_rule : edge.rule ≡ x.rule
   enters : slice_get f.contexts.named.states edge.next ≡ Some x.next
 
-module _ {S : Type 0} (m : Behaviour S) where
-  step_of : (contexts : Contexts S) (number : ℕ) (own : Expanded) → AreEdgesAt m contexts number own → (e : ListedEdge) → Contains (edges_by contexts own) e → IsStepOf m contexts.named.states number e
+-- each state that is found is known
+pub found_known : {S : Type 0} (m : Behaviour S) (states : List S) (order : List ℕ) → AreReached m states order → (number : ℕ) → Contains order number → number < length states
+found_known m states order reached number one = (let r = reached number one in slice_get_within states number r.0 r.1)
+
+module _ {S D : Type 0} (m : Behaviour S) where
+  step_of : (contexts : Contexts S D) (number : ℕ) (own : Expanded) → AreEdgesAt m contexts number own → (e : ListedEdge) → Contains (edges_by contexts own) e → IsStepOf m contexts.named.states number e
   step_of contexts number own are e one =
       let edges = edges_by contexts own in
       let place = place_of edges e one in
@@ -151,7 +155,7 @@ module _ {S : Type 0} (m : Behaviour S) where
       let by = are.edges.each place.0 x.0 e x.1 place.1 in
       record { state = are.state; at = are.at; taken = x.0; listed = (place.0, x.1); of_rule = sym by.rule; enters = by.next }
 
-  has_step : (f : FoundStates S) (place number : ℕ) (own : Expanded) → slice_get f.expanded.items place ≡ Some own → AreEdgesAt m f.contexts number own
+  has_step : (f : FoundStates S D) (place number : ℕ) (own : Expanded) → slice_get f.expanded.items place ≡ Some own → AreEdgesAt m f.contexts number own
       → (s : S) (x : Step S) → slice_get f.contexts.named.states number ≡ Some s → IsListed (m.steps s) x → HasStep f place x
   has_step f place number own at are s x s_at listed =
       let edges = edges_by f.contexts own in
@@ -162,15 +166,11 @@ module _ {S : Type 0} (m : Behaviour S) where
       record { edge = e.0; has = record { own = own; at = at; one = contained edges listed.0 e.0 e.1 }; of_rule = by.rule; enters = by.next }
 
   -- the state to which an edge leads is known
-  pub next_known : (contexts : Contexts S) (number : ℕ) (own : Expanded) → AreEdgesAt m contexts number own → (e : ListedEdge) → Contains (edges_by contexts own) e → e.next < length contexts.named.states
+  pub next_known : (contexts : Contexts S D) (number : ℕ) (own : Expanded) → AreEdgesAt m contexts number own → (e : ListedEdge) → Contains (edges_by contexts own) e → e.next < length contexts.named.states
   next_known contexts number own are e one = (let x = step_of contexts number own are e one in slice_get_within contexts.named.states e.next x.taken.next x.enters)
 
-  -- each state that is found is known
-  pub found_known : (states : List S) (order : List ℕ) → AreReached m states order → (number : ℕ) → Contains order number → number < length states
-  found_known states order reached number one = (let r = reached number one in slice_get_within states number r.0 r.1)
-
 -- the edges stay where more is known
-edges_same : {S : Type 0} (old new : Contexts S) → StillKnows old new → (own : Expanded) → IsWithin old own → edges_by old own ≡ edges_by new own
+edges_same : {S D : Type 0} (old new : Contexts S D) → StillKnows old new → (own : Expanded) → IsWithin old own → edges_by old own ≡ edges_by new own
 edges_same old new knows (steps.ByContext own) within = ap (λ (o : Option Forms). edges_of o own) (within.1 ∙ sym (knows.forms own.context within.0 within.1))
 edges_same old new knows (steps.Own edges) within = refl
 
@@ -178,10 +178,15 @@ edges_same old new knows (steps.Own edges) within = refl
 
 module _ {S D : Type 0} (m : Behaviour S) (h : Sharing S D) where
   -- only the start is found
-  pub found_first : (old f : FoundStates S) (number : ℕ) → IsNothing old → f.contexts.bases ≡ old.contexts.bases → f.contexts.forms.items ≡ old.contexts.forms.items → f.expanded.items ≡ old.expanded.items
+  pub found_first : (old f : FoundStates S D) (number : ℕ) → IsNothing old → f.contexts.bases ≡ old.contexts.bases → f.contexts.forms.items ≡ old.contexts.forms.items
+      → f.contexts.named.carried ≡ old.contexts.named.carried → f.contexts.named.owing ≡ old.contexts.named.owing → f.expanded.items ≡ old.expanded.items
       → slice_get f.contexts.named.states number ≡ Some m.start → AddsAtMost old.order.items number f.order.items → Contains f.order.items number → MarksAre f.order.items f.marks.items → AreFound m h f
-  found_first old f number nothing bases forms expanded at adds one marks = record {
+  found_first old f number nothing bases forms carried owing expanded at adds one marks = record {
     contexts = record {
+      are_carried = record {
+        count = ap length (ap (λ v. v.items) owing ∙ nothing.contexts.owing) ∙ sym (ap length (carried ∙ nothing.contexts.carried));
+        each = λ k own number own_at there. absurd (none_at f.contexts.named.carried (carried ∙ nothing.contexts.carried) k own own_at);
+      };
       count = ap length (forms ∙ nothing.contexts.forms) ∙ sym (ap length (bases ∙ nothing.contexts.bases));
       each = λ k base own base_at own_at. absurd (none_at f.contexts.bases (bases ∙ nothing.contexts.bases) k base base_at);
     };
@@ -208,12 +213,12 @@ one_first old number new none (inl same) one = absurd (none_in new (same ∙ non
 one_first old number new none (inr more) one = (let size = ap length more in let nothing = ap length none in omega (arith, size, nothing, length_push old number))
 
 -- the start alone is more than the limit allows
-pub passed_first : {S D : Type 0} (m : Behaviour S) (h : Sharing S D) (limit : ℕ) (f : FoundStates S) → AreFound m h f → length f.order.items ≡ 1 → limit < length f.order.items → HavePassed m limit f
+pub passed_first : {S D : Type 0} (m : Behaviour S) (h : Sharing S D) (limit : ℕ) (f : FoundStates S D) → AreFound m h f → length f.order.items ≡ 1 → limit < length f.order.items → HavePassed m limit f
 passed_first m h limit f found one more = record { passed = more; by_one = omega (arith, one); reached = found.reached; once = found.marks.once }
 
 -- ---- One more state is expanded
 
-module _ {S D : Type 0} (m : Behaviour S) (h : Sharing S D) (f g : FoundStates S) (found : AreFound m h f) (knows : StillKnows f.contexts g.contexts) (number : ℕ) (own : Expanded)
+module _ {S D : Type 0} (m : Behaviour S) (h : Sharing S D) (f g : FoundStates S D) (found : AreFound m h f) (knows : StillKnows f.contexts g.contexts) (number : ℕ) (own : Expanded)
     (at : slice_get f.order.items (length f.expanded.items) ≡ Some number) (are : AreEdgesAt m g.contexts number own) (enters : Enters (edges_by g.contexts own) f.order.items g.order.items) where
   kept_at : (place n : ℕ) → slice_get f.order.items place ≡ Some n → slice_get g.order.items place ≡ Some n
   kept_at place n n_at = subst (λ (xs : List ℕ). slice_get xs place ≡ Some n) (sym enters.adds) (before_more f.order.items enters.more place n n_at)
@@ -280,7 +285,7 @@ module _ {S D : Type 0} (m : Behaviour S) (h : Sharing S D) (f g : FoundStates S
 
 -- ---- The limit
 
-pub over_limit : {S : Type 0} (m : Behaviour S) (limit : ℕ) (f : FoundStates S) → HavePassed m limit f → HaveOneNumber f.contexts.named.states → IsOverLimit m limit (length f.order.items)
+pub over_limit : {S D : Type 0} (m : Behaviour S) (limit : ℕ) (f : FoundStates S D) → HavePassed m limit f → HaveOneNumber f.contexts.named.states → IsOverLimit m limit (length f.order.items)
 over_limit {S} m limit f h one = record {
   passed = h.passed;
   by_one = h.by_one;
@@ -314,7 +319,7 @@ over_limit {S} m limit f h one = record {
 
 -- ---- All is found
 
-module _ {S D : Type 0} (m : Behaviour S) (h : Sharing S D) (f : FoundStates S) (found : AreFound m h f) (all : length f.expanded.items ≡ length f.order.items) where
+module _ {S D : Type 0} (m : Behaviour S) (h : Sharing S D) (f : FoundStates S D) (found : AreFound m h f) (all : length f.expanded.items ≡ length f.order.items) where
   known_next : (number : ℕ) → Contains f.order.items number → number < length f.contexts.named.states
   known_next = found_known m f.contexts.named.states f.order.items found.reached
 

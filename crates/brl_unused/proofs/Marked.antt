@@ -61,7 +61,7 @@ none_more edges live i e at none not_this lead =
       | inr same ↦ not_this (subst (λ (x : ListedEdge). slice_get live x.next ≡ Some true) (sym same) lead.is_live)
     ]
 
-module _ {S : Type 0} (f : FoundStates S) (place : ℕ) (own : Expanded) (at : slice_get f.expanded.items place ≡ Some own) where
+module _ {S D : Type 0} (f : FoundStates S D) (place : ℕ) (own : Expanded) (at : slice_get f.expanded.items place ≡ Some own) where
   -- an edge of the state at this place is one of these
   pub one_of : (e : ListedEdge) → HasEdge f place e → Contains (edges_by f.contexts own) e
   one_of e has = subst (λ (o : Expanded). Contains (edges_by f.contexts o) e) (same_place f.expanded.items place has.own own has.at at) has.one
@@ -74,7 +74,7 @@ module _ {S : Type 0} (f : FoundStates S) (place : ℕ) (own : Expanded) (at : s
 
 -- ---- Live states
 
-module _ {S : Type 0} (ends : List Bool) (f : FoundStates S) (live : List Bool) (marked : AreMarked ends f live) where
+module _ {S D : Type 0} (ends : List Bool) (f : FoundStates S D) (live : List Bool) (marked : AreMarked ends f live) where
   -- a state is marked of which an edge leads to a marked one
   pub marked_more : (place number : ℕ) → slice_get f.order.items place ≡ Some number → LeadsOn f live place → AreMarked ends f (set live number true)
   marked_more place number at leads = record {
@@ -102,7 +102,7 @@ smaller true false new old fewer most is = cc
 smaller false false new old fewer most is = cc
 
 -- at first the final states are marked
-pub marked_start : {S : Type 0} (ends : List Bool) (f : FoundStates S) → AreMarked ends f ends
+pub marked_start : {S D : Type 0} (ends : List Bool) (f : FoundStates S D) → AreMarked ends f ends
 marked_start ends f = record { count = refl; finals = λ n h. h; live_ones = λ n h. final h }
 
 -- ---- The rules of some edges
@@ -160,7 +160,7 @@ marks_same live marks = record { count = refl; each = λ rule within. (λ h. inl
 -- ---- The rules of all states
 
 -- those of one state more
-module _ {S : Type 0} (f : FoundStates S) (live : List Bool) (end rules : ℕ) (own : Expanded) (at : slice_get f.expanded.items end ≡ Some own) (old : List Bool) (are : AreMarkedBy f live end rules old) where
+module _ {S D : Type 0} (f : FoundStates S D) (live : List Bool) (end rules : ℕ) (own : Expanded) (at : slice_get f.expanded.items end ≡ Some own) (old : List Bool) (are : AreMarkedBy f live end rules old) where
   last_or_below : (place : ℕ) → place < end + 1 → (place < end) ⊎ (place ≡ end)
   last_or_below place h = elim (three_ways place end) [ inl k ↦ inl k | inr k ↦ elim k [ inl e ↦ inr e | inr g ↦ absurd (omega (arith, h, g)) ] ]
 

@@ -31,7 +31,7 @@ pub record Enters (edges : List ListedEdge) (old new : List ℕ) : Type 0 where
   pub entered : (number : ℕ) → Contains more number → (e : ListedEdge) × Contains edges e × (e.next ≡ number)
 
 -- nothing is found, and nothing is known
-pub record IsNothing {S : Type 0} (f : FoundStates S) : Type 0 where
+pub record IsNothing {S D : Type 0} (f : FoundStates S D) : Type 0 where
   pub contexts : IsEmpty f.contexts
   pub order : f.order.items ≡ []
   pub marks : f.marks.items ≡ []
@@ -43,7 +43,7 @@ AreReached {S} m states numbers = (number : ℕ) → Contains numbers number →
 
 -- The start is found, and only states are that are reached. Of the first of them is known what
 -- their steps are, and the states to which these lead are found.
-pub record AreFound {S D : Type 0} (m : Behaviour S) (h : Sharing S D) (f : FoundStates S) : Type 0 where
+pub record AreFound {S D : Type 0} (m : Behaviour S) (h : Sharing S D) (f : FoundStates S D) : Type 0 where
   pub contexts : AreContexts m h f.contexts
   pub marks : MarksAre f.order.items f.marks.items
   pub reached : AreReached m f.contexts.named.states f.order.items
@@ -54,7 +54,7 @@ pub record AreFound {S D : Type 0} (m : Behaviour S) (h : Sharing S D) (f : Foun
   pub entered : (place : ℕ) (e : ListedEdge) → HasEdge f place e → Contains f.order.items e.next
 
 -- the limit is passed, by no more than one, and each state that is found is reached, and found once
-pub record HavePassed {S : Type 0} (m : Behaviour S) (limit : ℕ) (f : FoundStates S) : Type 0 where
+pub record HavePassed {S D : Type 0} (m : Behaviour S) (limit : ℕ) (f : FoundStates S D) : Type 0 where
   pub passed : limit < length f.order.items
   pub by_one : length f.order.items ≤ limit + 1
   pub reached : AreReached m f.contexts.named.states f.order.items

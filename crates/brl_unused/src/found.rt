@@ -12,9 +12,9 @@ use std::alloc::{AllocError, Global};
 
 /// States that are found, the start first, and of the first of them what their steps are.
 #[derive(Drop)]
-pub struct FoundStates<S: Key> {
+pub struct FoundStates<S: Key, D: Key> {
     /// The states that are known, with numbers: those that are found, and others.
-    pub contexts: Contexts<S>,
+    pub contexts: Contexts<S, D>,
     /// The numbers of the states that are found, in the order in which they are found.
     pub order: Vec<u32>,
     /// Of each of the known states, by its number, whether it is found. Those that have no mark
@@ -80,7 +80,10 @@ fn enter(
 }
 
 /// Finds the start.
-fn find_start<M: Based>(machine: &M, found: &mut FoundStates<M::State>) -> Result<(), AllocError>
+fn find_start<M: Based>(
+    machine: &M,
+    found: &mut FoundStates<M::State, M::More>,
+) -> Result<(), AllocError>
     requires { IsNothing found.old }
     ensures found { OnOk result (AreFound (M.behaviour machine.now) (M.sharing machine.now) found.new) }
     ensures one { OnOk result (length found.new.order.items ≡ 1) }
@@ -98,7 +101,7 @@ fn expand_next<M: Based>(
     alloc: Global,
     machine: &M,
     limit: u64,
-    found: &mut FoundStates<M::State>,
+    found: &mut FoundStates<M::State, M::More>,
 ) -> Result<bool, AllocError>
     requires found { AreFound (M.behaviour machine.now) (M.sharing machine.now) found.old }
     requires left { length found.old.expanded.items < length found.old.order.items }
@@ -123,7 +126,7 @@ pub fn explore<M: Based, P: Progress>(
     alloc: Global,
     machine: &M,
     limit: u64,
-    found: &mut FoundStates<M::State>,
+    found: &mut FoundStates<M::State, M::More>,
     progress: &mut P,
 ) -> Result<bool, AllocError>
     requires { IsNothing found.old }

@@ -38,9 +38,9 @@ fn lead_to_live(edges: &[ListedEdge], live: &[bool]) -> bool
 }
 
 /// Whether an edge of the state at this place leads to a live state.
-fn leads_on<S: Key>(
+fn leads_on<S: Key, D: Key>(
     alloc: Global,
-    found: &FoundStates<S>,
+    found: &FoundStates<S, D>,
     place: usize,
     live: &[bool],
 ) -> Result<bool, AllocError>
@@ -55,9 +55,9 @@ fn leads_on<S: Key>(
 
 /// Marks the state at this place if one of its edges leads to a live state. True where it wasn't
 /// marked and is now.
-fn mark_at<S: Key>(
+fn mark_at<S: Key, D: Key>(
     alloc: Global,
-    found: &FoundStates<S>,
+    found: &FoundStates<S, D>,
     place: usize,
     live: &mut Vec<bool>,
 ) -> Result<bool, AllocError>
@@ -83,9 +83,9 @@ fn mark_at<S: Key>(
 
 /// Marks states of which an edge leads to a live state: one round over all that are found, the last
 /// first. False where no state is marked that wasn't.
-fn mark_round<S: Key>(
+fn mark_round<S: Key, D: Key>(
     alloc: Global,
-    found: &FoundStates<S>,
+    found: &FoundStates<S, D>,
     live: &mut Vec<bool>,
 ) -> Result<bool, AllocError>
     requires whole { IsWhole found.now }
@@ -109,10 +109,10 @@ fn mark_round<S: Key>(
 
 /// Marks the states from which a final state is reached: backwards from the final ones, in rounds,
 /// until one marks no more. `ends` says which of the known states are final.
-pub fn live_states<S: Key>(
+pub fn live_states<S: Key, D: Key>(
     alloc: Global,
     ends: &[bool],
-    found: &FoundStates<S>,
+    found: &FoundStates<S, D>,
 ) -> Result<Vec<bool>, AllocError>
     requires whole { IsWhole found.now }
     requires count { length ends.now ≡ length found.now.contexts.named.states }

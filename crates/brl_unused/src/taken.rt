@@ -54,10 +54,10 @@ fn mark_rules(edges: &[ListedEdge], live: &[bool], marks: &mut Vec<bool>)
 
 /// Marks the rules with numbers below `rules` of which an edge leads from a state that is found to
 /// a live one.
-fn rules_to_live<S: Key>(
+fn rules_to_live<S: Key, D: Key>(
     alloc: Global,
     rules: usize,
-    found: &FoundStates<S>,
+    found: &FoundStates<S, D>,
     live: &[bool],
 ) -> Result<Vec<bool>, AllocError>
     requires whole { IsWhole found.now }
@@ -77,7 +77,7 @@ fn marks_of<M: Based>(
     alloc: Global,
     machine: &M,
     rules: usize,
-    found: &FoundStates<M::State>,
+    found: &FoundStates<M::State, M::More>,
 ) -> Result<Vec<bool>, AllocError>
     requires found { AreFound (M.behaviour machine.now) (M.sharing machine.now) found.now }
     requires all { length found.now.expanded.items ≡ length found.now.order.items }

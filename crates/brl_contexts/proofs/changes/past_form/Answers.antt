@@ -13,13 +13,16 @@ use Rattle.brl_pairs.specs.declared.step.Step.{Step}
 use Rattle.brl_pairs.proofs.Lists.{read_at, same_place}
 
 -- what is read for a form
-module _ {S D : Type 0} (m : Behaviour S) (h : Sharing S D) (named : Named S) (number : ℕ) (forms : Forms) (shared : IsShared m h named number forms)
+module _ {S D : Type 0} (m : Behaviour S) (h : Sharing S D) (named : Named S D) (number : ℕ) (forms : Forms) (shared : IsShared m h named number forms)
     (form : ℕ) (within : form < length forms.edges.items) (e : ListedEdge) (e_is : e ≡ get_or forms.edges.items form e) where
   edge_at : slice_get forms.edges.items form ≡ Some e
   edge_at = read_at forms.edges.items forms.edges.items form e refl within e_is
 
   next_less : (others : List S) → others ≡ named.states → e.next < length others
   next_less others are = subst (λ (l : List S). e.next < length l) (sym are) (next_within m h named number forms shared form e edge_at)
+
+  next_there : (others : List S) → others ≡ named.states → (next : S) → next ≡ get_or others e.next next → slice_get named.states e.next ≡ Some next
+  next_there others are next next_is = read_at others named.states e.next next are (next_less others are) next_is
 
   module _ (states : List S) (are : states ≡ named.states) (own : S) (own_is : own ≡ get_or states number own) (chars : List ℕ) (chars_is : chars ≡ get_or forms.reads.items form chars) where
     own_at : slice_get named.states number ≡ Some own
@@ -39,15 +42,15 @@ module _ {S D : Type 0} (m : Behaviour S) (h : Sharing S D) (named : Named S) (n
         let f = form_of m h named number forms shared form within in
         left_past m h named number forms shared form f s base own next x chars is based there (same_place named.states number own shared.state own_at shared.at)
         (same_reads m h named number forms shared form f chars chars_at)
-        (same_next m h named number forms shared form f e next edge_at (read_at others named.states e.next next others_are (next_less others others_are) next_is))
+        (same_next m h named number forms shared form f e next edge_at (next_there others others_are next next_is))
 
-pub bounds-as_slice-index : goal.bounds-as_slice-index
-bounds-as_slice-index g c =
+pub bounds-as_slice-target : goal.bounds-as_slice-target
+bounds-as_slice-target g c =
     next_less (g.B.Machine.behaviour c.args.machine.now) (g.B.Based.sharing c.args.machine.now) c.args.named.now c.args.state c.args.forms.now c.requires.shared c.args.form c.requires.within
     c.index.result.now c.index.ensures c.as_slice-2.result.now c.as_slice-2.ensures.members
 
-pub offset_bounds-as_slice-index : goal.offset_bounds-as_slice-index
-offset_bounds-as_slice-index g c =
+pub offset_bounds-as_slice-target : goal.offset_bounds-as_slice-target
+offset_bounds-as_slice-target g c =
     (let less = next_less (g.B.Machine.behaviour c.args.machine.now) (g.B.Based.sharing c.args.machine.now) c.args.named.now c.args.state c.args.forms.now c.requires.shared c.args.form c.requires.within
     c.index.result.now c.index.ensures c.as_slice-2.result.now c.as_slice-2.ensures.members in omega (arith, less))
 
@@ -62,8 +65,8 @@ returns-in-Broken-clause-past g c s base x at based there =
     let named = c.args.named.now in
     let left = by_values (g.B.Machine.behaviour c.args.machine.now) h named c.args.state c.args.forms.now c.requires.shared c.args.form c.requires.within
     c.index.result.now c.index.ensures c.as_slice.result.now c.as_slice.ensures.members c.index-as_slice-state.result c.index-as_slice-state.is c.index-2.result.now c.index-2.ensures
-    c.as_slice-2.result.now c.as_slice-2.ensures.members c.index-as_slice-index.result c.index-as_slice-index.is s base x (same_place named.states c.args.state s c.requires.shared.state at c.requires.shared.at) based there in
-    broken_past h (record { states = named.states; cells = named.cells }) x (h.past s x.reads x.next) (left.0 ∙ sym c.in_ok-past.ensures ∙ c.in-Broken.is)
+    c.as_slice-2.result.now c.as_slice-2.ensures.members c.index-as_slice-target.result c.index-as_slice-target.is s base x (same_place named.states c.args.state s c.requires.shared.state at c.requires.shared.at) based there in
+    broken_past h named x (h.past s x.reads x.next) (left.0 ∙ sym c.in_ok-past.ensures ∙ c.in-Broken.is)
 
 pub returns-in-Same-clause-past : goal.returns-in-Same-clause-past
 returns-in-Same-clause-past g c s base x at based there =
@@ -71,18 +74,28 @@ returns-in-Same-clause-past g c s base x at based there =
     let named = c.args.named.now in
     let left = by_values (g.B.Machine.behaviour c.args.machine.now) h named c.args.state c.args.forms.now c.requires.shared c.args.form c.requires.within
     c.index.result.now c.index.ensures c.as_slice.result.now c.as_slice.ensures.members c.index-as_slice-state.result c.index-as_slice-state.is c.index-2.result.now c.index-2.ensures
-    c.as_slice-2.result.now c.as_slice-2.ensures.members c.index-as_slice-index.result c.index-as_slice-index.is s base x (same_place named.states c.args.state s c.requires.shared.state at c.requires.shared.at) based there in
-    same_past h (record { states = named.states; cells = named.cells }) x (h.past s x.reads x.next) (left.0 ∙ sym c.in_ok-past.ensures ∙ c.in-Same.is)
+    c.as_slice-2.result.now c.as_slice-2.ensures.members c.index-as_slice-target.result c.index-as_slice-target.is s base x (same_place named.states c.args.state s c.requires.shared.state at c.requires.shared.at) based there in
+    same_past h named x (h.past s x.reads x.next) (left.0 ∙ sym c.in_ok-past.ensures ∙ c.in-Same.is)
 
 pub returns-clause-past : goal.returns-clause-past
 returns-clause-past g c s base x at based there =
     let h = g.B.Based.sharing c.args.machine.now in
     let named = c.args.named.now in
-    let new = c.number_of.new.self in
+    let new = c.number_owing.new.named in
     let shared = c.requires.shared in
-    let is = same_place new.states c.args.state s shared.state at (c.in_ok-number.ensures.names.states c.args.state shared.state shared.at) in
+    let names = c.in_ok-number.ensures.names in
+    let to = c.in_ok-number.ensures.number in
+    let is = same_place new.states c.args.state s shared.state at (names.states c.args.state shared.state shared.at) in
+    let next_at = next_there (g.B.Machine.behaviour c.args.machine.now) h named c.args.state c.args.forms.now shared c.args.form c.requires.within
+    c.index.result.now c.index.ensures c.as_slice-2.result.now c.as_slice-2.ensures.members c.index-as_slice-target.result c.index-as_slice-target.is in
     let left = by_values (g.B.Machine.behaviour c.args.machine.now) h named c.args.state c.args.forms.now shared c.args.form c.requires.within
     c.index.result.now c.index.ensures c.as_slice.result.now c.as_slice.ensures.members c.index-as_slice-state.result c.index-as_slice-state.is c.index-2.result.now c.index-2.ensures
-    c.as_slice-2.result.now c.as_slice-2.ensures.members c.index-as_slice-index.result c.index-as_slice-index.is s base x is based there in
-    more_past h (record { states = new.states; cells = new.cells }) x (h.past s x.reads x.next) c.in-More.more c.in_ok-number.number (left.0 ∙ sym c.in_ok-past.ensures ∙ c.in-More.is)
-    (c.in_ok-number.ensures.number ∙ ap Some (c.in_ok-owing.ensures ∙ ap (λ (t : g.row.B-State.Denot). h.owing t c.in-More.more) (sym left.1)))
+    c.as_slice-2.result.now c.as_slice-2.ensures.members c.index-as_slice-target.result c.index-as_slice-target.is s base x is based there in
+    let state : to.state ≡ x.next = same_place new.states c.index.result.now.next to.state _ to.at (names.states c.index.result.now.next _ next_at) ∙ sym left.1 in
+    more_past h new x (h.past s x.reads x.next) c.in-More.more c.in_ok-number.number (left.0 ∙ sym c.in_ok-past.ensures ∙ c.in-More.is)
+    (to.owing ∙ ap (λ (t : g.row.B-State.Denot). Some (h.owing t c.in-More.more)) state)
+
+pub number_owing-requires-clause-next : goal.number_owing-requires-clause-next
+number_owing-requires-clause-next g c =
+    next_less (g.B.Machine.behaviour c.args.machine.now) (g.B.Based.sharing c.args.machine.now) c.args.named.now c.args.state c.args.forms.now c.requires.shared c.args.form c.requires.within
+    c.index.result.now c.index.ensures c.args.named.now.states refl

@@ -3,7 +3,7 @@ use Rattle.std.proofs.lemmas.List.{get_or_past}
 use Rattle.std.proofs.lemmas.Option.{get_or_from_slice_get, slice_get_within}
 use Rattle.brl_contexts.specs.Changes.{AreChangesBelow, AreChangesTo, IsShared}
 use Rattle.brl_contexts.specs.Met.{AreBarsAt, AreMetByForm}
-use Rattle.brl_contexts.specs.Named.{StillNames}
+use Rattle.brl_contexts.specs.Named.{AreCarried, StillNames}
 use Rattle.brl_contexts.specs.declared.changes.Change.{Change}
 use Rattle.brl_contexts.specs.declared.forms.Forms.{Forms}
 use Rattle.brl_contexts.specs.declared.met.Met.{Met}
@@ -32,6 +32,7 @@ loop-from-init g c =
       within = omega arith;
       passed = λ i x less at. absurd (omega (arith, less));
       names = record { states = λ k s at. at; cells = λ k own at. at };
+      carried = shared.are_carried;
       changes = subst (λ (l : List Change). AreChangesTo eq m h named c.args.state bound l) (sym c.requires.none)
           (for_all eq m h named c.args.state bound _ shared.state shared.base shared.at shared.is_base
           (first_changes eq g.met.B.State.Key.same g.met.B.State.Eq.laws.refl m h c.start.ensures.laws c.law.ensures shared.state shared.base shared.is_base named forms shared.are_forms met (c.requires.met shared.state shared.at)));
@@ -47,7 +48,7 @@ bounds-opens-index g c =
 
 pub push_change-requires-clause-shared : goal.push_change-requires-clause-shared
 push_change-requires-clause-shared g c =
-    still_shared (g.B.Machine.behaviour c.args.machine.now) (g.B.Based.sharing c.args.machine.now) c.args.named.now c.loop-from.named c.loop-from.invariant.names c.args.state c.args.forms.now c.requires.shared
+    still_shared (g.B.Machine.behaviour c.args.machine.now) (g.B.Based.sharing c.args.machine.now) c.args.named.now c.loop-from.named c.loop-from.invariant.names c.loop-from.invariant.carried c.args.state c.args.forms.now c.requires.shared
 
 pub push_change-requires-clause-opened : goal.push_change-requires-clause-opened
 push_change-requires-clause-opened g c s at =
@@ -87,7 +88,7 @@ push_change-requires-clause-below g c =
 
 -- the invariant after a group
 module _ {S : Type 0} (eq : S → S → Bool) (same : (a b : S) → eq a b ≡ true → a ≡ b) (itself : (a : S) → eq a a ≡ true) {D : Type 0} (m : Behaviour S) (h : Sharing S D) (laws : KeepsLaws m) (keeps : KeepsSharing eq m h)
-    (named : Named S) (number : ℕ) (forms : Forms) (shared : IsShared m h named number forms) (met : List Met) (are_met : AreMetByForm (h.bars shared.state) forms.reads.items met)
+    (named : Named S D) (number : ℕ) (forms : Forms) (shared : IsShared m h named number forms) (met : List Met) (are_met : AreMetByForm (h.bars shared.state) forms.reads.items met)
     (from : ℕ) (bars : List ℕ) (here : AreBarsAt met from bars) (passed : (i : ℕ) (x : Met) → i < from → slice_get met i ≡ Some x → x.form < bound_of met from (length forms.reads.items)) (changes : List Change) where
   after_group : AreChangesTo eq m h named number (here.form + 1) changes → AreChangesTo eq m h named number (bound_of met (from + length bars) (length forms.reads.items)) changes
   after_group to = for_all eq m h named number (bound_of met (from + length bars) (length forms.reads.items)) changes shared.state shared.base shared.at shared.is_base
@@ -137,19 +138,24 @@ loop-from-preserved g c =
         })
         | else-opens-index w ↦ subst (StillNames c.args.named.now) (sym w.named-is) c.loop-from.invariant.names
       ];
+      carried = elim c.if-opens-index.branch [
+        | then-opens-index+in_ok-push_change w ↦ subst (AreCarried h) (sym w.named-is) w.in_ok-push_change.ensures.carried
+        | else-opens-index w ↦ subst (AreCarried h) (sym w.named-is) c.loop-from.invariant.carried
+      ];
       changes = subst (λ (n : ℕ). AreChangesTo eq m h c.if-opens-index.named c.args.state (bound_of met n (length forms.reads.items)) c.if-opens-index.changes.items) (sym next) (elim c.if-opens-index.branch [
         | then-opens-index+in_ok-push_change w ↦
             let new = w.push_change.new.named in
-            let all = still_shared m h c.loop-from.named new w.in_ok-push_change.ensures.names c.args.state forms (still_shared m h c.args.named.now c.loop-from.named c.loop-from.invariant.names c.args.state forms shared) in
-            subst (λ (n : Named g.row.B-State.Denot). AreChangesTo eq m h n c.args.state (bound_of met (from + length bars) (length forms.reads.items)) c.if-opens-index.changes.items) (sym w.named-is)
+            let all = still_shared m h c.loop-from.named new w.in_ok-push_change.ensures.names w.in_ok-push_change.ensures.carried c.args.state forms
+            (still_shared m h c.args.named.now c.loop-from.named c.loop-from.invariant.names c.loop-from.invariant.carried c.args.state forms shared) in
+            subst (λ (n : Named g.row.B-State.Denot g.row.B-More.Denot). AreChangesTo eq m h n c.args.state (bound_of met (from + length bars) (length forms.reads.items)) c.if-opens-index.changes.items) (sym w.named-is)
             (after_group eq g.met.B.State.Key.same g.met.B.State.Eq.laws.refl m h c.start.ensures.laws c.law.ensures new c.args.state forms all met are_met from bars here passed c.if-opens-index.changes.items
             (subst (λ (k : ℕ). AreChangesTo eq m h new c.args.state k c.if-opens-index.changes.items) (ap (λ (k : ℕ). k + 1) (sym form ∙ own))
             (subst (λ v. AreChangesTo eq m h new c.args.state ((get_or met from (record { form = 0; bar = 0 })).form + 1) v.items) (sym w.changes-is) w.in_ok-push_change.ensures.below)))
         | else-opens-index w ↦
-            let all = still_shared m h c.args.named.now c.loop-from.named c.loop-from.invariant.names c.args.state forms shared in
+            let all = still_shared m h c.args.named.now c.loop-from.named c.loop-from.invariant.names c.loop-from.invariant.carried c.args.state forms shared in
             let shut = opens_value h c.args.named.now (m.steps shared.base) forms shared.are_forms shared.state c.args.opens.now (c.requires.opens shared.state shared.at) met are_met from c.loop-from-test.true
             c.index.result.now c.index.ensures false w.if-opens-index.false in
-            subst (λ (n : Named g.row.B-State.Denot). AreChangesTo eq m h n c.args.state (bound_of met (from + length bars) (length forms.reads.items)) c.if-opens-index.changes.items) (sym w.named-is)
+            subst (λ (n : Named g.row.B-State.Denot g.row.B-More.Denot). AreChangesTo eq m h n c.args.state (bound_of met (from + length bars) (length forms.reads.items)) c.if-opens-index.changes.items) (sym w.named-is)
             (after_closed eq g.met.B.State.Key.same g.met.B.State.Eq.laws.refl m h c.start.ensures.laws c.law.ensures c.loop-from.named c.args.state forms all met are_met from bars here passed c.if-opens-index.changes.items
             (ap (λ (k : ℕ). h.opens shared.state (h.gate (sequence_at forms.reads.items k))) (sym own ∙ form) ∙ shut)
             (subst (λ v. AreChangesTo eq m h c.loop-from.named c.args.state (bound_of met from (length forms.reads.items)) v.items) (sym w.changes-is) c.loop-from.invariant.changes))
@@ -167,3 +173,6 @@ returns-clause-changes g c =
     ap (λ (x : Met). x.form) (get_or_past met c.loop-from.from (record { form = length forms.reads.items; bar = 0 }) (omega (arith, c.loop-from-test.false))) in
     subst (λ k. AreChangesTo g.B.State.PartialEq.eq m h c.loop-from.named c.args.state k c.loop-from.changes.items)
     (end ∙ many_reads h c.args.named.now (m.steps shared.base) forms shared.are_forms) c.loop-from.invariant.changes
+
+pub returns-clause-carried : goal.returns-clause-carried
+returns-clause-carried g c = c.loop-from.invariant.carried

@@ -1,13 +1,7 @@
-use Rattle.std.proofs.Common.{◌≡◌, ◌∙◌, ◌++◌, ◌∷◌, Bool, cond, false, true, IsFalse, List, [], ap, length, refl, slice_get}
-use Rattle.brl_contexts.proofs.Kept.{contexts_push, stays_push}
+use Rattle.std.proofs.Common.{◌∙◌, List, ap, length, slice_get}
+use Rattle.brl_contexts.proofs.Kept.{added, contexts_push, stays_push}
 use Rattle.brl_contexts.proofs.contexts.context_of.Goals as goal
-use Rattle.brl_pairs.specs.Members.{IsMember}
 use Rattle.brl_pairs.proofs.Lists.{push_last}
-
--- a value that isn't a member is added
-added : {T : Type 0} (old new : List T) (value : T) (b : Bool) → (IsFalse b → IsMember old value) → (IsMember old value → ⊥) → new ≡ cond b (old ++ value ∷ []) old → new ≡ old ++ value ∷ []
-added old new value true known none is = is
-added old new value false known none is = absurd (none (known refl))
 
 pub returns-clause-number : goal.returns-clause-number
 returns-clause-number g c =
@@ -20,7 +14,7 @@ pub returns-clause-contexts : goal.returns-clause-contexts
 returns-clause-contexts g c =
     contexts_push (g.B.Machine.behaviour c.args.machine.now) (g.B.Based.sharing c.args.machine.now) c.args.contexts.now (record { named = c.list_forms.new.named; bases = c.insert.new.self; forms = c.push.new.self }) c.args.base c.in_ok-forms.forms c.in_ok-forms.ensures.names
     (added c.args.contexts.now.bases c.insert.new.self c.args.base c.in_ok-insert.field-0 c.in_ok-insert.ensures.known (λ member. c.in_default.not-Some member.0 (c.index_of.ensures.only member.0 member.1)) c.in_ok-insert.ensures.members)
-    c.in_ok-push.ensures.items c.in_ok-forms.ensures.forms c.requires.contexts
+    c.in_ok-push.ensures.items c.in_ok-forms.ensures.forms (c.in_ok-forms.ensures.carries (g.B.Based.sharing c.args.machine.now) c.requires.contexts.are_carried) c.requires.contexts
 
 pub returns-clause-knows : goal.returns-clause-knows
 returns-clause-knows g c = record {

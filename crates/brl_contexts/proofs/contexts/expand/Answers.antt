@@ -9,7 +9,8 @@ returns-in_ok-own-in-Some-clause-knows g c =
 
 pub returns-in_ok-edges-in-None-clause-contexts : goal.returns-in_ok-edges-in-None-clause-contexts
 returns-in_ok-edges-in-None-clause-contexts g c =
-    contexts_kept (g.B.Machine.behaviour c.args.machine.now) (g.B.Based.sharing c.args.machine.now) c.args.contexts.now c.list_own.new.named c.in_ok-edges-in-None.ensures.names c.requires.contexts
+    contexts_kept (g.B.Machine.behaviour c.args.machine.now) (g.B.Based.sharing c.args.machine.now) c.args.contexts.now c.list_own.new.named c.in_ok-edges-in-None.ensures.names
+    (c.in_ok-edges-in-None.ensures.carries (g.B.Based.sharing c.args.machine.now) c.requires.contexts.are_carried) c.requires.contexts
 
 pub returns-in_ok-edges-in-None-clause-edges : goal.returns-in_ok-edges-in-None-clause-edges
 returns-in_ok-edges-in-None-clause-edges g c =

@@ -16,7 +16,7 @@ changes_of-requires-clause-shared g c =
     let count = c.requires.contexts.count in
     let within = slice_get_within contexts.bases c.args.context own.base own.context_at in
     let there = read_at contexts.forms.items contexts.forms.items c.args.context forms refl (omega (arith, count, within)) c.index-forms.ensures in
-    record { state = own.state; base = own.base; at = own.at; is_base = own.is_base; are_forms = c.requires.contexts.each c.args.context own.base forms own.context_at there }
+    record { state = own.state; base = own.base; at = own.at; is_base = own.is_base; are_forms = c.requires.contexts.each c.args.context own.base forms own.context_at there; are_carried = c.requires.contexts.are_carried }
 
 pub changes_of-requires-clause-opens : goal.changes_of-requires-clause-opens
 changes_of-requires-clause-opens g c s at =
@@ -31,7 +31,8 @@ changes_of-requires-clause-opens g c s at =
 
 pub returns-clause-contexts : goal.returns-clause-contexts
 returns-clause-contexts g c =
-    contexts_kept (g.B.Machine.behaviour c.args.machine.now) (g.B.Based.sharing c.args.machine.now) c.args.contexts.now c.changes_of.new.named c.in_ok-changes.ensures.names c.requires.contexts
+    contexts_kept (g.B.Machine.behaviour c.args.machine.now) (g.B.Based.sharing c.args.machine.now) c.args.contexts.now c.changes_of.new.named c.in_ok-changes.ensures.names c.in_ok-changes.ensures.carried
+    c.requires.contexts
 
 pub returns-clause-edges : goal.returns-clause-edges
 returns-clause-edges g c =

@@ -1,6 +1,7 @@
 use Rattle.std.proofs.Common.{◌∙◌, ◌++◌, ◌∷◌, [], ℕ, List, ap, refl, subst, sym}
 use Rattle.std.proofs.lemmas.List.{map-append}
 use Rattle.brl_contexts.specs.Named.{Stays}
+use Rattle.brl_contexts.proofs.Kept.{still_carried}
 use Rattle.brl_contexts.proofs.forms.number_steps.Goals as goal
 use Rattle.brl_pairs.specs.Listed.{AreListedEdges}
 use Rattle.brl_pairs.specs.declared.step.Step.{Step}
@@ -24,6 +25,7 @@ loop-step-preserved g c =
         states = λ k s at. names.states k s (c.loop-step.invariant.names.states k s at);
         cells = λ k own at. kept k own (c.loop-step.invariant.names.cells k own at);
       };
+      carries = λ h are. still_carried h old _ names.states c.in_ok-next.ensures.carried (ap (λ v. v.items) c.in_ok-next.ensures.owing) (c.loop-step.invariant.carries h are);
     }
 
 pub loop-step-preserved-in_ok-push-2 : goal.loop-step-preserved-in_ok-push-2
@@ -44,4 +46,8 @@ loop-step-preserved-in_ok-push-2 g c =
         states = λ k s at. names.states k s (c.loop-step.invariant.names.states k s at);
         cells = λ k own at. kept k own (c.loop-step.invariant.names.cells k own at);
       };
+      carries = λ h are. still_carried h old _ names.states c.in_ok-next.ensures.carried (ap (λ v. v.items) c.in_ok-next.ensures.owing) (c.loop-step.invariant.carries h are);
     }
+
+pub returns-clause-carries : goal.returns-clause-carries
+returns-clause-carries g c = c.loop-step.invariant.carries

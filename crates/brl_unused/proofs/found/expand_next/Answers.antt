@@ -29,7 +29,7 @@ returns-clause-found g c = λ whole.
     let number = c.index.result.now in
     let own = c.in_ok-own.own in
     let contexts = c.expand.new.contexts in
-    let new : FoundStates g.row.M-State.Denot = record { contexts = contexts; order = c.enter.new.order; marks = c.enter.new.marks; expanded = c.push.new.self } in
+    let new : FoundStates g.row.M-State.Denot g.row.M-More.Denot = record { contexts = contexts; order = c.enter.new.order; marks = c.enter.new.marks; expanded = c.push.new.self } in
     let same : c.as_slice.result.now ≡ edges_by contexts own = c.as_slice.ensures.value ∙ c.in_ok-edges.ensures in
     found_next (g.M.Machine.behaviour c.args.machine.now) (g.M.Based.sharing c.args.machine.now) f new c.requires.found c.in_ok-own.ensures.knows number own
     (read_number f.order.items (length f.expanded.items) c.len.result number (let size = c.len.ensures in omega (arith, size)) c.requires.left c.index.ensures) c.in_ok-own.ensures.edges
@@ -43,7 +43,7 @@ returns-clause-passed g c = λ stopped.
     let number = c.index.result.now in
     let own = c.in_ok-own.own in
     let contexts = c.expand.new.contexts in
-    let new : FoundStates g.row.M-State.Denot = record { contexts = contexts; order = c.enter.new.order; marks = c.enter.new.marks; expanded = c.push.new.self } in
+    let new : FoundStates g.row.M-State.Denot g.row.M-More.Denot = record { contexts = contexts; order = c.enter.new.order; marks = c.enter.new.marks; expanded = c.push.new.self } in
     let same : c.as_slice.result.now ≡ edges_by contexts own = c.as_slice.ensures.value ∙ c.in_ok-edges.ensures in
     passed_next (g.M.Machine.behaviour c.args.machine.now) (g.M.Based.sharing c.args.machine.now) f new c.requires.found c.in_ok-own.ensures.knows number own
     (read_number f.order.items (length f.expanded.items) c.len.result number (let size = c.len.ensures in omega (arith, size)) c.requires.left c.index.ensures) c.in_ok-own.ensures.edges

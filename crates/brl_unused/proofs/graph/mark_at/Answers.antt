@@ -9,7 +9,7 @@ use Rattle.brl_unused.proofs.Marked.{mark-fewer, marked_more}
 use Rattle.brl_unused.proofs.graph.mark_at.Goals as goal
 
 -- the number at a place is that of a state that is known
-module _ {S : Type 0} (f : FoundStates S) (whole : IsWhole f) (place : ℕ) (within : place < length f.order.items) (number : ℕ) (is : number ≡ get_or f.order.items place number) where
+module _ {S D : Type 0} (f : FoundStates S D) (whole : IsWhole f) (place : ℕ) (within : place < length f.order.items) (number : ℕ) (is : number ≡ get_or f.order.items place number) where
   number_at : slice_get f.order.items place ≡ Some number
   number_at = slice_get_read f.order.items (length f.order.items) place number refl within is
 
