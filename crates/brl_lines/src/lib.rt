@@ -50,4 +50,4 @@ pub use skipping::{WithoutDictionaries, load_without_dictionaries};
 pub use source::{MOST_FILE_BYTES, Source, SourceFault};
 pub use spelling::spell_chars;
 pub use visible::{is_unseen, spell_visibly, visible_line};
-pub use way::{IncludeReason, LeftInclude};
+pub use way::{IncludeReason, LeftInclude, Policy};

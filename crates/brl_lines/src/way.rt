@@ -22,7 +22,7 @@ const MOST_INCLUDES: usize = 1024;
 
 /// Which include lines of a table are followed.
 #[derive(Clone, Copy)]
-pub(crate) enum Policy {
+pub enum Policy {
     /// All of them.
     Load,
     /// None of a hyphenation dictionary.
