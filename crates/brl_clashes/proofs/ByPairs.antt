@@ -1,6 +1,6 @@
 -- What is left beside excused pairs is left beside those of them that are listed.
 use Rattle.std.proofs.Common.{◌≡◌, ◌∙◌, ◌++◌, ◌&&◌, ◌||◌, ℕ, All, Bool, true, false, List, [], ◌∷◌, ap, arith, filter, fold, not, refl, sym, suc}
-use Rattle.std.specs.Prelude.{◌==◌, get_or, if◌then◌else◌, ◌+◌}
+use Rattle.std.specs.Prelude.{◌==◌, get_or, if◌then◌else◌}
 use Rattle.std.proofs.lemmas.Bool.{and_parts, eq-eqb, eqb-true}
 use Rattle.std.proofs.lemmas.List.Elements.{All-cons, All-nil}
 use Rattle.std.proofs.lemmas.List.Folds.{list_any-append}

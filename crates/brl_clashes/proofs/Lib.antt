@@ -1,3 +1,4 @@
+mod Earlier
 pub mod Verdicts
 mod KindsAddUp
 mod Lines

@@ -1,5 +1,5 @@
 -- What the sections of a list of clashes mean for their table.
-use Rattle.std.proofs.Common.{◌≡◌, ◌∙◌, ◌<◌, ◌+◌, ◌-◌, ◌++◌, ◌&&◌, ℕ, zero, suc, All, Bool, true, false, List, [], ◌∷◌, Some, ap, arith, drop, filter, get_or, inl, inr, length, not, refl, slice_get, subst, sym}
+use Rattle.std.proofs.Common.{◌≡◌, ◌∙◌, ◌<◌, ◌+◌, ◌++◌, ◌&&◌, ℕ, zero, suc, All, Bool, true, false, List, [], ◌∷◌, Some, ap, arith, drop, filter, get_or, inl, inr, length, not, refl, slice_get, subst, sym}
 use Rattle.std.specs.Prelude.{◌==◌, ◌||◌, if◌then◌else◌, nat_eq}
 use Rattle.std.specs.List.{list_all}
 use Rattle.std.proofs.lemmas.Bool.{and_parts, eqb-true}
@@ -9,6 +9,7 @@ use Rattle.std.proofs.lemmas.List.Elements.{All-filter, filter_passes}
 use Rattle.std.proofs.lemmas.List.Folds.{list_any-append}
 use Rattle.std.proofs.lemmas.Option.{slice_get-get_or}
 use Rattle.brl_rules.proofs.Facts.{or-true}
+use Rattle.brl_clashes.proofs.Earlier.{uses_fewer}
 use Rattle.brl_clashes.specs.Kinds.{kept, kinds_among, left_out_in, of_kinds, or_letter, section_kinds}
 use Rattle.brl_clashes.specs.Accepted.{AreLeftOf, IsLeftOf, IsLeftOfList}
 use Rattle.brl_clashes.specs.ListedPairs.{has_pair, is_pair}
@@ -223,16 +224,7 @@ none_clash t left_out diverge = λ left right left_is right_is left_none right_n
 
 -- a text that uses none of more characters uses none of some of them
 fewer : (some more text : List ℕ) → uses_none (some ++ more) text ≡ true → uses_none some text ≡ true
-fewer some more [] none = refl
-fewer some more (c ∷ text) none =
-    let apart : (not (is_left_out some c || is_left_out more c) && uses_none (some ++ more) text) ≡ true =
-    sym (ap (λ b. not b && uses_none (some ++ more) text) (list_any-append (nat_eq c) some more)) ∙ none in
-    cases (is_left_out some c) (is_left_out more c) (uses_none (some ++ more) text) (uses_none some text) (fewer some more text) apart
-  where
-    cases : (a b u v : Bool) → (u ≡ true → v ≡ true) → (not (a || b) && u) ≡ true → (not a && v) ≡ true
-    cases true b u v less e = absurd cc
-    cases false true u v less e = absurd cc
-    cases false false u v less e = less e
+fewer some more text none = uses_fewer (some ++ more) some (λ c there. list_any-append (nat_eq c) some more ∙ ap (λ (b : Bool). b || is_left_out more c) there) text none
 
 fewer_left_out : (t : TableView) (some more left right cells : List ℕ) → IsClashWithout (some ++ more) t left right cells → IsClashWithout some t left right cells
 fewer_left_out t some more left right cells clash =

@@ -1,6 +1,6 @@
 -- The kinds of a table's characters, and the kinds for which a list of clashes has sections. The
 -- project's own choice.
-use Rattle.std.specs.Prelude.{ℕ, ◌+◌, Bool, ◌||◌, ◌==◌, if◌then◌else◌, List, [], ◌∷◌, ◌++◌, drop, map, not}
+use Rattle.std.specs.Prelude.{ℕ, ◌+◌, Bool, ◌||◌, ◌==◌, if◌then◌else◌, List, [], ◌∷◌, ◌++◌, drop, not}
 use Rattle.std.specs.List.{filter, list_any}
 use Rattle.brl_clashes.specs.declared.kind.Kind.{Kind}
 use Rattle.brl_clashes.specs.declared.kind.Kind.TheVariants.{Letter, Digit, Capital, Mark, Other}

@@ -1,9 +1,11 @@
 //! A section of a list of clashes.
-ghost use Rattle.std.specs.Prelude.{◌≡◌};
-ghost use Rattle.brl_clashes.specs.Sections.{clashes_of as clashes_in, is_whole as has_all, lists_none as has_none};
+ghost use Rattle.std.specs.Prelude.{◌≡◌, IfOk};
+ghost use Rattle.brl_clashes.specs.Sections.{AreClashesOf, clashes_of as clashes_in, is_whole as has_all, lists_none as has_none};
 
 use crate::Kind;
+use brl_rules::Table;
 use brl_search::{ClashList, RuleClash};
+use std::alloc::{AllocError, Global};
 
 /// What is found for the texts of one kind of characters and of those of the sections before it.
 #[derive(Drop)]
@@ -31,6 +33,22 @@ pub fn into_clashes(found: ClashList) -> Vec<RuleClash>
         ClashList::Complete { list, .. } => list,
         ClashList::Partial { list, .. } => list,
     }
+}
+
+/// Copies of these clashes, in the same order. The table is the one whose clashes they are.
+pub fn copies_of(
+    alloc: Global,
+    table: &Table,
+    clashes: &[RuleClash],
+) -> Result<Vec<RuleClash>, AllocError>
+    requires { AreClashesOf table.now clashes.now }
+    ensures { IfOk result (λ copies. copies.items ≡ clashes.now) }
+{
+    let mut copies = Vec::new(alloc);
+    for clash in clashes {
+        copies.push(clash.copy(alloc, table)?)?;
+    }
+    Ok(copies)
 }
 
 /// Whether a list has every pair of rules at which clashing texts diverge.

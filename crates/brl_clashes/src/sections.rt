@@ -1,11 +1,11 @@
 //! The sections of a table's list of clashes, and how each is found.
-ghost use Rattle.std.specs.Prelude.{◌≡◌, ◌<◌, ◌&&◌, [], IfOk, OnOk, Some, false, length, slice_get, true};
+ghost use Rattle.std.specs.Prelude.{◌≡◌, ◌<◌, ◌≤◌, ◌&&◌, [], All, IfOk, OnOk, Some, false, length, slice_get, true};
 ghost use Rattle.std.specs.Option.{option_map_or};
-ghost use Rattle.brl_clashes.specs.Finding.{IfKnown, IsOfAll, IsPlan};
+ghost use Rattle.brl_clashes.specs.Finding.{AreKnownAt, IfKnown, IsOfAll, IsPlan};
 ghost use Rattle.brl_clashes.specs.Kinds.{left_out_in};
 ghost use Rattle.brl_clashes.specs.Sections.{AreListed, IsSection, clashes_of as clashes_in, is_whole as has_all, lists_none as has_none};
 ghost use Rattle.brl_clashes.specs.Showing.{asked_of};
-ghost use Rattle.brl_search.specs.Clashes.{AreClashes};
+ghost use Rattle.brl_search.specs.Clashes.{AreClashes, IsRuleClash};
 ghost use Rattle.brl_without.specs.Tables.{IsUnambiguousWithout};
 
 use crate::Kind;
@@ -14,7 +14,7 @@ use crate::list_request::{ListRequest, Plan};
 use crate::section::{Section, is_whole, lists_none};
 use brl_pairs::{Body, Members, Seed};
 use brl_progress::Progress;
-use brl_search::{ClashList, clashes};
+use brl_search::{ClashList, RuleClash, clashes};
 use brl_without::LeftOut;
 use std::alloc::{AllocError, Global};
 
@@ -22,62 +22,78 @@ use std::alloc::{AllocError, Global};
 /// of small letters and blanks, and then with digits, with capitals, with marks, and for all. There
 /// is a section for each kind that the table has a character of.
 ///
-/// Where the sections before it list nothing, the list of all texts, the last section, is found
-/// first and kept: where that has nothing either, no others are searched.
+/// The known clashes are those of the section before it, which aren't searched again. Where there
+/// are none, the list of all texts, the last section, is found first and kept: where that has
+/// nothing either, no others are searched.
 pub(crate) fn find_section<P: Progress>(
     alloc: Global,
     plan: Plan<'_>,
     place: usize,
-    none_before: bool,
+    known: Vec<RuleClash>,
     all: &mut Option<ClashList>,
     progress: &mut P,
 ) -> Result<Section, AllocError>
     requires plan { IsPlan plan }
     requires place { place < length plan.kinds.now }
+    requires known { AreKnownAt (asked_of plan.asked) place known.items }
     requires all { IfKnown (asked_of plan.asked) all.old }
     ensures section { IfOk result (IsSection plan.entry.asked.table.now plan.entry.asked.left_out.now plan.entry.asked.limit place) }
     ensures all { OnOk result (IfKnown (asked_of plan.entry.asked) all.new) }
 {
     let kind = kind_at(plan.kinds, place);
     if place + 1 == plan.kinds.len() {
-        let found = find_all(alloc, plan, all.take(), progress)?;
+        let found = find_all(alloc, plan, all.take(), known, progress)?;
         return Ok(Section { kind, found });
     }
+    let none_before = known.is_empty();
     if none_before && place > 0 {
-        *all = Some(find_all(alloc, plan, all.take(), progress)?);
+        *all = Some(find_all(alloc, plan, all.take(), Vec::new(alloc), progress)?);
     }
     let none = is_none(all);
-    let found = found_at(alloc, plan, place, none, progress)?;
+    let found = found_at(alloc, plan, place, none, known, progress)?;
     Ok(Section { kind, found })
 }
 
-/// The list of all texts, which may be known.
+/// The list of all texts, which may be found already.
 fn find_all<P: Progress>(
     alloc: Global,
     plan: Plan<'_>,
-    known: Option<ClashList>,
+    all: Option<ClashList>,
+    known: Vec<RuleClash>,
     progress: &mut P,
 ) -> Result<ClashList, AllocError>
     requires some { 0 < length plan.kinds.now }
-    requires known { IfKnown (asked_of plan.asked) known }
+    requires all { IfKnown (asked_of plan.asked) all }
+    requires known { All (IsRuleClash plan.asked.left_out.now plan.asked.table.now) known.items }
+    requires few { length known.items ≤ plan.asked.limit }
     ensures { IfOk result (IsOfAll (asked_of plan.entry.asked)) }
 {
     let kind = kind_at(plan.kinds, plan.kinds.len() - 1);
-    match known {
+    match all {
         Some(all) => Ok(all),
-        None => search(alloc, plan.asked, kind, plan.asked.left_out, progress),
+        None => search(
+            alloc,
+            plan.asked,
+            kind,
+            plan.asked.left_out,
+            known,
+            progress,
+        ),
     }
 }
 
-/// The clashes of the texts that use none of some characters. The observer hears of texts of this
-/// kind.
+/// The clashes of the texts that use none of some characters. Those that are known aren't searched
+/// again. Progress is reported under the name of this kind.
 fn search<P: Progress>(
     alloc: Global,
     asked: ListRequest<'_>,
     kind: Kind,
     without: &LeftOut,
+    known: Vec<RuleClash>,
     progress: &mut P,
 ) -> Result<ClashList, AllocError>
+    requires known { All (IsRuleClash without.now asked.table.now) known.items }
+    requires few { length known.items ≤ asked.limit }
     ensures { IfOk result (AreClashes without.now asked.entry.table.now asked.entry.limit) }
 {
     progress.begin(kind.name());
@@ -86,6 +102,7 @@ fn search<P: Progress>(
         asked.table,
         u64::from(asked.limit),
         without,
+        known,
         progress,
     );
     progress.end();
@@ -99,10 +116,12 @@ fn found_at<P: Progress>(
     plan: Plan<'_>,
     place: usize,
     none: bool,
+    known: Vec<RuleClash>,
     progress: &mut P,
 ) -> Result<ClashList, AllocError>
     requires plan { IsPlan plan }
     requires place { place < length plan.kinds.now }
+    requires known { AreKnownAt (asked_of plan.asked) place known.items }
     requires none { none ≡ true → IsUnambiguousWithout plan.asked.left_out.now plan.asked.table.now }
     ensures { IfOk result (AreListed (left_out_in plan.entry.asked.table.now plan.entry.asked.left_out.now place) plan.entry.asked.table.now plan.entry.asked.limit) }
 {
@@ -112,7 +131,14 @@ fn found_at<P: Progress>(
     let asked = plan.asked;
     let later = &plan.kinds[place + 1..];
     let without = left_out_and(alloc, asked.table, asked.left_out, later, plan.kept)?;
-    search(alloc, asked, kind_at(plan.kinds, place), &without, progress)
+    search(
+        alloc,
+        asked,
+        kind_at(plan.kinds, place),
+        &without,
+        known,
+        progress,
+    )
 }
 
 /// The kind at a place.

@@ -11,7 +11,7 @@ use crate::clashes_text::head_text;
 use crate::kind::{kept_characters, section_kinds};
 use crate::list_request::{ListRequest, Plan};
 use crate::representatives::Firsts;
-use crate::section::{clashes_of, is_whole};
+use crate::section::{clashes_of, copies_of, is_whole};
 use crate::section_text::section_text;
 use crate::sections::find_section;
 use crate::sets::plain_characters;
@@ -109,9 +109,10 @@ fn show_each<O: Output, P: Progress>(
     ensures cause { IsErrOf result faults.OutputFailed → O.failures out.new ≢ O.failures out.old }
     ensures calm { OnOk result (O.failures out.new ≡ O.failures out.old) }
 {
+    let mut known = Vec::new(alloc);
     for place in 0..plan.kinds.len() {
-        let none_before = tally.found.len() == 0;
-        let section = find_section(alloc, plan, place, none_before, all, progress)?;
+        let section = find_section(alloc, plan, place, known, all, progress)?;
+        known = copies_of(alloc, plan.asked.table, clashes_of(&section.found))?;
         let whole = is_whole(&section.found);
         show_section(alloc, plan, section, tally, out)?;
         if !whole {

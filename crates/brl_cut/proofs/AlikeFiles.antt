@@ -4,8 +4,9 @@ use Rattle.std.specs.Cmp.{first_so, second_so}
 use Rattle.std.specs.Result.{is_ok}
 use Rattle.std.specs.Str.{bytes_eq, is_utf8}
 use Rattle.std.proofs.lemmas.Bool.Decides.{nat_tests}
+use Rattle.std.proofs.lemmas.Option.{same_Some}
 use Rattle.std.proofs.lemmas.Slice.Eq.{bytes_eq-Decides}
-use Rattle.brl_lines.specs.Answer.{FileAnswer, Holds, Large, Missing, Unreadable, answer_of, most_file_bytes, same_answer}
+use Rattle.brl_lines.specs.Answer.{FileAnswer, Holds, Large, answer_of, most_file_bytes, same_answer}
 use Rattle.brl_lines.specs.Lines.{Answers, LocationView, Refusal, answer_at, long_row, refusal, text_in, text_of, unless_long}
 use Rattle.brl_lines.specs.Outcome.{AreGiven}
 use Rattle.brl_lines.specs.Rows.{without_mark}
@@ -62,8 +63,6 @@ module _ (path : List ℕ) where
 
   good-after : (files others : Texts) → keep_files files others ≡ true → (one other : Option (List ℕ)) → HasAsGood one other → HasAsGood (fold last one files) (fold last other others)
   good-after [] [] keep one other good = good
-  good-after [] (new ∷ others) keep one other good = absurd cc
-  good-after (file ∷ files) [] keep one other good = absurd cc
   good-after (file ∷ files) (new ∷ others) keep one other good =
       good-after files others (second_so (keeps_file file new) (keep_files files others) keep) (last one file) (last other new) (by_path (bytes_eq file.0 path) refl)
     where
@@ -75,17 +74,15 @@ module _ (path : List ℕ) where
 
       by_path : (here : Bool) → bytes_eq file.0 path ≡ here → HasAsGood (if bytes_eq file.0 path then Some file.1 else one) (if bytes_eq new.0 path then Some new.1 else other)
       by_path true is bytes e =
-          let first : file.1 ≡ bytes = some_is (ap (λ b. cond b (Some file.1) one) (sym is) ∙ e) in (
+          let first = same_Some file.1 bytes (ap (λ b. cond b (Some file.1) one) (sym is) ∙ e) in (
             new.1,
             ap (λ b. cond b (Some new.1) other) (ap (λ p. bytes_eq p path) (sym same_path) ∙ is),
             subst (λ b. AreAsGood b new.1) first (second_so (bytes_eq file.0 new.0) (bytes_eq file.1 new.1 || keeps_lines file.1 new.1) keeps),
           )
-        where
-          some_is : {x y : List ℕ} → ◌≡◌ {A = Option (List ℕ)} (Some x) (Some y) → x ≡ y
-          some_is f = cc
       by_path false is bytes e =
           let there = good bytes (ap (λ b. cond b (Some file.1) one) (sym is) ∙ e) in
           (there.0, ap (λ b. cond b (Some new.1) other) (ap (λ p. bytes_eq p path) (sym same_path) ∙ is) ∙ there.1, there.2)
+  good-after files others keep one other good = absurd cc
 
   -- an answer for the path of each file
   abbrev answers_by : (List ℕ → FileAnswer) → Texts → Answers
@@ -111,9 +108,7 @@ module _ (path : List ℕ) where
 -- what is answered for files is given by them
 same-self : (answer : FileAnswer) → same_answer answer answer ≡ true
 same-self (Holds bytes) = (bytes_eq-Decides bytes bytes).1 refl
-same-self Missing = refl
-same-self Large = refl
-same-self Unreadable = refl
+same-self answer = refl
 
 all-given : (files some : Texts) → AreGiven (only [] files) (map (λ file. (file.0, answer_of (bytes_at files file.0))) some)
 all-given files [] = tt
@@ -135,11 +130,9 @@ pub reads-read : (files : Texts) (root : List ℕ) (t : TableView) → IsReadAs 
     → (lines : List LineView) → lines_among [] files root ≡ Ok lines → AreGood lines × (t ≡ table_of lines)
 reads-read files root t is lines there =
     let read = lines-read files root t is in
-    let same = same_lines (sym read.1 ∙ there) in
+    let both : ◌≡◌ {A = Result (List LineView) Refusal} (Ok read.0) (Ok lines) = sym read.1 ∙ there in
+    let same : read.0 ≡ lines = cc in
     (subst AreGood same read.2, read.3 ∙ ap table_of same)
-  where
-    same_lines : {xs ys : List LineView} → ◌≡◌ {A = Result (List LineView) Refusal} (Ok xs) (Ok ys) → xs ≡ ys
-    same_lines e = cc
 
 -- Files whose lines are the same as those of files that define a table define it too.
 module _ (files others : Texts) (keep : keep_files files others ≡ true) where

@@ -23,10 +23,8 @@ leads-refused : (why : Refusal) (other : Result Walk Refusal) → Leads (Err why
 leads-refused why other e is = absurd cc
 
 leads-ok : (e d : Walk) → Alike e d → Leads (Ok e) (Ok d)
-leads-ok e d alike f is = subst (λ (g : Walk). (h : Walk) × ◌≡◌ {A = Result Walk Refusal} (Ok d) (Ok h) × Alike g h) (same-ok is) (d, refl, alike)
-  where
-    same-ok : {x y : Walk} → ◌≡◌ {A = Result Walk Refusal} (Ok x) (Ok y) → x ≡ y
-    same-ok e = cc
+leads-ok e d alike f is =
+    let same : e ≡ f = cc in subst (λ (g : Walk). (h : Walk) × ◌≡◌ {A = Result Walk Refusal} (Ok d) (Ok h) × Alike g h) same (d, refl, alike)
 
 -- one step after another
 leads-then : (one other : Result Walk Refusal) (h k : Walk → Result Walk Refusal) → Leads one other → ((e d : Walk) → Alike e d → Leads (h e) (k d)) → Leads (one >>= h) (other >>= k)

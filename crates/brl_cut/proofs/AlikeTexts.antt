@@ -11,7 +11,7 @@ use Rattle.std.proofs.lemmas.Slice.Eq.{bytes_eq-Decides}
 use Rattle.brl_lines.specs.Answer.{most_file_bytes}
 use Rattle.brl_lines.specs.Lines.{LocationView, is_long, long_row, most_row_bytes, refusal, text_in, unless_long}
 use Rattle.brl_lines.specs.declared.fault.LoadFaultKind.TheVariants as kinds
-use Rattle.brl_lines.specs.Rows.{onto, rows, rows_of, without_mark}
+use Rattle.brl_lines.specs.Rows.{onto, rows_of, without_mark}
 use Rattle.brl_lines.specs.Tokens.{lines_in}
 use Rattle.brl_cut.proofs.BareLines.{bare, bytes_of, comment-does-nothing, feed_follows, lines-are, plain_rows, row_line, row_lines, rows-of-text}
 use Rattle.brl_cut.specs.Alike.{are_alike, are_comments, begins_comment, keeps_lines, stands_for}

@@ -62,17 +62,8 @@ ruled-bare place head opcode (first ∷ []) = refl
 ruled-bare place head opcode (first ∷ second ∷ comment) = refl
 
 ruled_as-bare : (head : RuleHead) (opcode : List ℕ) (operands : List TokenView) (known : Option Opcode) → ruled_as head opcode (unplaced operands) known ≡ ruled_as head opcode operands known
-ruled_as-bare head opcode operands None = refl
-ruled_as-bare head opcode operands (Some (Plain classes)) = refl
-ruled_as-bare head opcode operands (Some Literary) = refl
-ruled_as-bare head opcode operands (Some Uplow) = refl
 ruled_as-bare head opcode operands (Some (Placed place)) = ruled-bare place head opcode operands
-ruled_as-bare head opcode operands (Some Noback) = refl
-ruled_as-bare head opcode operands (Some Nofor) = refl
-ruled_as-bare head opcode operands (Some Display) = refl
-ruled_as-bare head opcode operands (Some (Indicator sign)) = refl
-ruled_as-bare head opcode operands (Some (NumericList role)) = refl
-ruled_as-bare head opcode operands (Some Include) = refl
+ruled_as-bare head opcode operands known = refl
 
 ruled_after-bare : (head : RuleHead) (prefix : List ℕ) (operands : List TokenView) → ruled_after head prefix (unplaced operands) ≡ ruled_after head prefix operands
 ruled_after-bare head prefix [] = refl

@@ -1,5 +1,5 @@
 -- Edits and files, one more at a time.
-use Rattle.std.proofs.Common.{◌≡◌, ℕ, ◌+◌, ◌<◌, Bool, true, false, cond, nat_lt, arith, Bor, if◌then◌else◌, ◌&&◌, nat_eq, List, [], ◌∷◌, ◌++◌, length, map, take, get_or, refl, ap, sym, ◌∙◌, Option, Some, None, option_map, string_bytes}
+use Rattle.std.proofs.Common.{◌≡◌, ℕ, ◌+◌, ◌<◌, Bool, true, false, cond, Bor, if◌then◌else◌, ◌&&◌, nat_eq, List, [], ◌∷◌, ◌++◌, length, map, take, get_or, refl, ap, sym, ◌∙◌, Option, Some, None, option_map, string_bytes}
 use Rattle.std.specs.BTreeMap.{BTreeMap, get_by, get_by_text, is_at}
 use Rattle.std.specs.Global.{Global, Vec}
 use Rattle.std.specs.Ordering.{nat_cmp}
@@ -12,7 +12,6 @@ use Rattle.brl_cut.specs.Files.{HasPrefixes, HoldsFiles, edit_view, file_view}
 use Rattle.brl_cut.specs.Settling.{bytes_at}
 use Rattle.brl_cut.specs.declared.files.Edit.{Edit}
 use Rattle.brl_lines.proofs.Ordered.{is_eq-nat_eq}
-use Rattle.brl_lines.specs.InMemory.{bytes_in}
 use Rattle.brl_lines.specs.declared.gathering.GatheredFile.{GatheredFile}
 
 views-more : {A B : Type 0} (view : A → B) (xs : List A) (i : ℕ) (x : A) → i < length xs → x ≡ get_or xs i x → map view (take (i + 1) xs) ≡ map view (take i xs) ++ view x ∷ []
@@ -35,27 +34,23 @@ bytes-more files i file within is path =
     ap (λ (fs : Texts). bytes_at fs path) (views-more file_view files i file within is)
     ∙ fold_push (λ (found : Option (List ℕ)) (f : List ℕ × List ℕ). if bytes_eq f.0 path then Some f.1 else found) None (map file_view (take i files)) (file_view file)
 
--- what a source with one file more has at a path
-held-at : (m n : BTreeMap (String Global) (Vec ℕ)) (key : String Global) (bytes : Vec ℕ)
-    → ((p : List ℕ) → get_by_text n p ≡ cond (bytes_eq (string_bytes key) p) (Some bytes) (get_by_text m p))
-    → (files : List GatheredFile) (i : ℕ) (file : GatheredFile) → i < length files → file ≡ get_or files i file → string_bytes key ≡ string_bytes file.path → bytes.items ≡ file.bytes.items
-    → HoldsFiles [] (map file_view (take i files)) (record { files = m; folders = None }) → (path : List ℕ)
-    → bytes_in (record { files = n; folders = None }) path ≡ bytes_at (map file_view (take (i + 1) files)) path
-held-at m n key bytes updates files i file within is named same before path =
-    ap (option_map (λ (b : Vec ℕ). b.items)) (updates path) ∙ by_test (bytes_eq (string_bytes key) path)
-    ∙ ap (λ (k : List ℕ). if bytes_eq k path then Some file.bytes.items else bytes_at (map file_view (take i files)) path) named
-    ∙ sym (bytes-more files i file within is path)
-  where
-    by_test : (b : Bool) → option_map (λ (v : Vec ℕ). v.items) (cond b (Some bytes) (get_by_text m path)) ≡ (if b then Some file.bytes.items else bytes_at (map file_view (take i files)) path)
-    by_test true = ap Some same
-    by_test false = before.0 path
-
 -- a source with one file more
 pub held-more : (m n : BTreeMap (String Global) (Vec ℕ)) (key : String Global) (bytes : Vec ℕ)
     → ((p : List ℕ) → get_by_text n p ≡ cond (bytes_eq (string_bytes key) p) (Some bytes) (get_by_text m p))
     → (files : List GatheredFile) (i : ℕ) (file : GatheredFile) → i < length files → file ≡ get_or files i file → string_bytes key ≡ string_bytes file.path → bytes.items ≡ file.bytes.items
     → HoldsFiles [] (map file_view (take i files)) (record { files = m; folders = None }) → HoldsFiles [] (map file_view (take (i + 1) files)) (record { files = n; folders = None })
-held-more m n key bytes updates files i file within is named same before = (held-at m n key bytes updates files i file within is named same before, refl)
+held-more m n key bytes updates files i file within is named same before = (
+  λ path.
+      ap (option_map (λ (b : Vec ℕ). b.items)) (updates path) ∙ by_test path (bytes_eq (string_bytes key) path)
+      ∙ ap (λ (k : List ℕ). if bytes_eq k path then Some file.bytes.items else bytes_at (map file_view (take i files)) path) named
+      ∙ sym (bytes-more files i file within is path),
+  refl,
+)
+  where
+    by_test : (path : List ℕ) (b : Bool) → option_map (λ (v : Vec ℕ). v.items) (cond b (Some bytes) (get_by_text m path))
+        ≡ (if b then Some file.bytes.items else bytes_at (map file_view (take i files)) path)
+    by_test path true = ap Some same
+    by_test path false = before.0 path
 
 -- what is put before lines, after one edit more, of this file or of another
 module _ (edits : List Edit) (i : ℕ) (edit : Edit) (within : i < length edits) (is : edit ≡ get_or edits i edit) (path : List ℕ) (m : BTreeMap ℕ (Bor (List ℕ))) (before : HasPrefixes m (prefix_in (map edit_view (take i edits)) path)) where

@@ -21,37 +21,27 @@ pub definition-found : (found : Findings) (line : LineView) → findings_view fo
 definition-found found line told =
     ap (λ n. found.has_characters && (n == 0)) (sym (length-map found.faulty.items faulty_line_view)) ∙ ap (λ (f : FindingsView). f.has_characters && (length f.faulty == 0)) told
 
--- fewer than three words are no line
-few-words : (line : LineView) (words : List Token) → length words < 3 → edit_to_words line (map token_view words) ≡ []
-few-words line [] few = refl
-few-words line (a ∷ []) few = refl
-few-words line (a ∷ b ∷ []) few = refl
-few-words line (a ∷ b ∷ c ∷ words) few = absurd (omega arith)
-
--- so they add no edit
+-- fewer than three words are no line, so they add no edit
 pub few-words-add : (edits : List EditView) (line : LineView) (words : List Token) → length words < 3 → edits ≡ edits ++ edit_to_words line (map token_view words)
-few-words-add edits line words few = sym (append-nil edits) ∙ ap (λ (es : List EditView). edits ++ es) (sym (few-words line words few))
+few-words-add edits line (a ∷ b ∷ c ∷ words) few = absurd (omega arith)
+few-words-add edits line words few = sym (append-nil edits)
 
 -- fewer than three operands are no capital with its small letter, so they add no edit
 pub few-operands-add : (edits : List EditView) (characters : List (ℕ × Info)) (line : LineView) (operands : List Token) → length operands < 3
     → edits ≡ edits ++ edit_to_pair characters line (map token_view operands)
-few-operands-add edits characters line [] few = sym (append-nil edits)
-few-operands-add edits characters line (a ∷ []) few = sym (append-nil edits)
-few-operands-add edits characters line (a ∷ b ∷ []) few = sym (append-nil edits)
 few-operands-add edits characters line (a ∷ b ∷ c ∷ operands) few = absurd (omega arith)
+few-operands-add edits characters line operands few = sym (append-nil edits)
 
 -- fewer than two characters are no letter and another one
 pub few-chars : (letters : Letters) (chars : List ℕ) → length chars < 2 → begins_alone letters chars ≡ false
-few-chars letters [] few = refl
-few-chars letters (c ∷ []) few = refl
 few-chars letters (c ∷ d ∷ others) few = absurd (omega arith)
+few-chars letters chars few = refl
 
 -- of more the first two decide
 pub more-chars : (letters : Letters) (chars : List ℕ) (default other first second : ℕ) → 2 ≤ length chars → first ≡ get_or chars 0 default → second ≡ get_or chars 1 other
     → begins_alone letters chars ≡ (letters.takes_sign first && not (letters.is_letter second))
-more-chars letters [] default other first second many is also = absurd (omega arith)
-more-chars letters (c ∷ []) default other first second many is also = absurd (omega arith)
 more-chars letters (c ∷ d ∷ others) default other first second many is also = λ j. letters.takes_sign (sym is j) && not (letters.is_letter (sym also j))
+more-chars letters chars default other first second many is also = absurd (omega arith)
 
 -- the lines of one item more
 pub entries-more : {X : Type 0} (f : X → List ℕ) (xs : List X) (i : ℕ) → i < length xs → flat_map f (take i xs) ++ option_map_or f (slice_get xs i) [] ≡ flat_map f (take (i + 1) xs)

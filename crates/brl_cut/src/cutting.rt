@@ -242,7 +242,8 @@ fn check_marked(
     if is_read_still(alloc, of, files, root, dir)? {
         return Ok(());
     }
-    check_written(alloc, files, root, dir)
+    read_written(alloc, files, root, dir)?;
+    Ok(())
 }
 
 /// Whether files have the lines of a cut's files, but for comments, and the cut was made for this
@@ -258,20 +259,6 @@ fn is_read_still(
 {
     let written = written_root(alloc, dir, root)?;
     Ok(of.written.as_str() == written.as_str() && keep_files(of.cut.files.as_slice(), files))
-}
-
-/// Whether these files define a table, whose root has a path before it is written into a folder.
-fn check_written(
-    alloc: Global,
-    files: &[GatheredFile],
-    root: &str,
-    dir: &str,
-) -> Result<(), Failure<CutFault>>
-    ensures read { OnOk result (IsRead (map file_view files.now) (written_root_of dir.now root.now)) }
-    ensures fault { IfErr result (IfFault (IsUnwritten (map file_view files.now) root.now dir.now)) }
-{
-    read_written(alloc, files, root, dir)?;
-    Ok(())
 }
 
 /// Whether one of these marks is of a file that had this path before it was cut.

@@ -10,7 +10,7 @@ ghost use Rattle.brl_cut.specs.Edits.{is_of};
 ghost use Rattle.brl_cut.specs.Files.{edit_view, file_view};
 ghost use Rattle.brl_cut.specs.LetsignViews.{known_view};
 ghost use Rattle.brl_cut.specs.Letsigns.{include_edit as include_edit_by, is_taken as is_taken_by, made_file, made_name, made_path, sign_edits as sign_edits_by};
-ghost use Rattle.brl_cut.specs.Rewriting.{base_edits, changed as changed_by, is_rewritten as is_rewritten_by, known_lines, last_change as last_change_by, lines_in, may_change as may_change_by, noback_edits, rewritten as rewritten_by, with_definitions, with_last_change};
+ghost use Rattle.brl_cut.specs.Rewriting.{base_edits, changed as changed_by, is_rewritten as is_rewritten_by, known_lines, last_change as last_change_by, lines_in, may_change as may_change_by, rewritten as rewritten_by, with_definitions, with_last_change};
 ghost use Rattle.brl_cut.specs.RewritingViews.{around_view, change_from, change_view, contraction_change_of, contractions_of, rewritten_view, sign_change_of};
 ghost use Rattle.brl_cut.specs.Settling.{lines_among};
 ghost use Rattle.brl_cut.specs.Signs.{sign_view};
@@ -96,14 +96,6 @@ fn base_edits_in(
     base_of_lines(alloc, lines.as_slice())
 }
 
-/// The edits of lines that begin with `noback` in a table that was loaded.
-fn noback_edits_in(alloc: Global, loaded: &Loaded) -> Result<Vec<Edit>, AllocError>
-    ensures { IfOk result (λ edits. map edit_view edits.items ≡ noback_edits loaded.now.lines) }
-{
-    let lines = loaded.lines(alloc)?;
-    noback_of_lines(alloc, lines.as_slice())
-}
-
 /// Rewrites the lines of files, which were loaded, that become definitions.
 fn rewrite_definitions(
     alloc: Global,
@@ -114,7 +106,8 @@ fn rewrite_definitions(
     requires { lines_among (map string_bytes around.folders.now) (map file_view files.now) around.root.now ≡ Ok whole.now.lines }
     ensures { IfOk result (λ new. rewritten_view new ≡ with_definitions (around_view around.entry) (map file_view files.now)) }
 {
-    let mut edits = noback_edits_in(alloc, whole)?;
+    let lines = whole.lines(alloc)?;
+    let mut edits = noback_of_lines(alloc, lines.as_slice())?;
     let after = edit_files(alloc, files, edits.as_slice())?;
     let mut more = base_edits_in(alloc, around, after.as_slice())?;
     let files = edit_files(alloc, after.as_slice(), more.as_slice())?;
@@ -371,12 +364,7 @@ fn is_edit_of(edit: &Edit, place: &Location) -> bool
 fn is_rewritten(edits: &[Edit], place: &Location) -> bool
     ensures { result ≡ is_rewritten_by (map edit_view edits.now) (location_view place.now) }
 {
-    for edit in edits {
-        if is_edit_of(edit, place) {
-            return true;
-        }
-    }
-    false
+    edits.iter().any(|edit| is_edit_of(edit, place))
 }
 
 /// How many of the lines at these places are rewritten.

@@ -1,7 +1,6 @@
 -- Steps that are settled stay settled, and where all are, the sets are closed but for the listed
 -- pairs of rules.
 use Rattle.std.proofs.Common.{◌≡◌, ℕ, ◌<◌, ◌≤◌, ◌⊎◌, List, inl, inr, length, Some, slice_get, refl, sym, ◌∙◌, ap, subst, arith}
-use Rattle.std.specs.BTreeMap.{btree_map_len}
 use Rattle.std.proofs.lemmas.Option.{slice_get_within}
 use Rattle.brl_pairs.specs.Body.{listed}
 use Rattle.brl_pairs.specs.Divergence.{HaveRules, IsClosedBut}
@@ -107,7 +106,7 @@ module _ {M S P : Type 0} (behaviour : M → Behaviour S) (steps_of : M → P �
       walked = λ n less. absurd (let none : length it.trail.pairs ≡ 0 = ap length h.no_pairs in omega (arith, less, none));
     };
     listed = h.listed;
-    few = let none : btree_map_len it.list ≡ 0 = ap length h.no_rules in omega (arith, none);
+    few = h.few;
     known = none_known (behaviour f.machine.now) it.trail.states it.known h.no_known;
   }
 
@@ -140,7 +139,7 @@ working_without behaviour steps_of f e parts kept it settled (inl (expanding, no
     there = expanding.there;
     no_pairs = expanding.no_pairs;
     listed = expanding.listed;
-    no_rules = expanding.no_rules;
+    few = expanding.few;
     no_known = expanding.no_known;
   },
   none,

@@ -1,7 +1,7 @@
 -- Internal. What is left to do in a listing: states to be expanded, and states whose splits are to
 -- be settled.
 use Rattle.std.specs.Prelude.{◌≡◌, ℕ, ◌+◌, ◌-◌, ◌<◌, ◌≤◌, ◌⊎◌, List, [], length}
-use Rattle.std.specs.BTreeMap.{IsEmpty}
+use Rattle.std.specs.BTreeMap.{btree_map_len}
 use Rattle.brl_pairs.specs.Runs.{Behaviour}
 use Rattle.brl_pairs.specs.declared.step.Step.{Step}
 use Rattle.brl_parts.specs.Parts.{AreKeptParts, PartsView}
@@ -13,8 +13,8 @@ use Rattle.brl_divergence.specs.Found.{IsSettledState, IsSound}
 use Rattle.brl_divergence.specs.declared.expanded.Expanded.{Expanded}
 use Rattle.brl_divergence.specs.declared.found.FoundSoFar.{FoundSoFar}
 
--- states are expanded, with the parts of their steps, and neither a pair nor a pair of rules is
--- found yet, nor are steps kept
+-- states are expanded, with the parts of their steps, and no pair is found yet, nor are steps kept;
+-- the pairs of rules that are listed were known at the start, and are within the limit
 pub record IsExpanding {M S P : Type 0} (behaviour : M → Behaviour S) (steps_of : M → P → List (Step S)) (f : Finder M S) (e : Expanded) (parts : PartsView P) (it : FoundSoFar S) : Type 0 where
   pub active : IsActive behaviour f it.trail
   pub expanded : AreExpanded (behaviour f.machine.now) it.trail.states e
@@ -22,7 +22,7 @@ pub record IsExpanding {M S P : Type 0} (behaviour : M → Behaviour S) (steps_o
   pub there : length e.edges.items ≤ length it.trail.states
   pub no_pairs : it.trail.pairs ≡ []
   pub listed : IsListed (behaviour f.machine.now) it.list
-  pub no_rules : IsEmpty it.list
+  pub few : btree_map_len it.list ≤ f.limit
   pub no_known : it.known.lists.items ≡ []
 
 -- all states are expanded, and the splits of the first ones are settled

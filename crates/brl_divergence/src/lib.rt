@@ -5,8 +5,8 @@
 //! By `brl_pairs::divergence_law` any two texts of the machine with the same translation are equal
 //! or diverge at one of the pairs of a complete list.
 //!
-//! - `list_divergences` makes the list. A `Listing` does the same in slices: it runs for a number
-//!   of steps at a time, and returns a `Slice`.
+//! - `list_divergences` makes the list, which may begin with pairs that are known. A `Listing` does
+//!   the same in slices: it runs for a number of steps at a time, and returns a `Slice`.
 //! - Inside, all states are expanded first. Then an `Explorer` takes one split after the other, and
 //!   finds all that its two runs lead to. Where no two ends are among that, it is kept. Else it is
 //!   dropped, and the pair of rules is listed.

@@ -1,7 +1,8 @@
 //! A listing of a machine's divergences, in slices or at once.
 ghost use Rattle.std.specs.Prelude.{◌≡◌, ◌<◌, ◌≤◌, IfErr, IfOk, length};
 ghost use Rattle.std.specs.Bool.{OnFalse, OnTrue};
-ghost use Rattle.brl_divergence.specs.Answers.{AreDivergencesOf};
+ghost use Rattle.std.specs.BTreeMap.{btree_map_len};
+ghost use Rattle.brl_divergence.specs.Answers.{AreDivergencesOf, IsListed};
 ghost use Rattle.brl_divergence.specs.Found.{IsOver};
 ghost use Rattle.brl_divergence.specs.ListingView.{IsOf};
 ghost use Rattle.brl_divergence.specs.Working.{AreSteps, IsDone, IsStep, IsWorking};
@@ -9,7 +10,7 @@ ghost use Rattle.brl_divergence.specs.declared.expanded.Expanded.{Expanded as Ex
 ghost use Rattle.brl_failure.specs.Failure.{IfFault};
 ghost use Rattle.brl_progress.specs.Slices.{IfFinished, IfUnfinished};
 
-use crate::divergences::Divergences;
+use crate::divergences::{Divergences, RuleTexts};
 use crate::expanded::{Expanded, expand_next, forget_parts};
 use crate::explorer::Explorer;
 use crate::found::FoundSoFar;
@@ -19,7 +20,6 @@ use brl_pairs::{Body, Machine, Parted, Seed};
 use brl_parts::Parts;
 use brl_progress::{Progress, Slice, Sliced, Work, run_to_end};
 use std::alloc::{AllocError, Global};
-use std::collections::BTreeMap;
 use std::marker::Model;
 
 /// A listing that isn't finished. First all states are found and expanded, breadth first. Then the
@@ -57,14 +57,18 @@ impl<'m, M: Parted> Model for Listing<'m, M> {
 
 impl<'m, M: Parted> Listing<'m, M> {
     /// The listing of a machine that has found the start, or its answer. It finds states and pairs
-    /// by hashes of this seed, which is to be drawn from all that the machine depends on.
+    /// by hashes of this seed, which is to be drawn from all that the machine depends on. Splits
+    /// into steps of the pairs of rules that are listed already aren't explored.
     pub fn start(
         alloc: Global,
         machine: &'m M,
         limit: u64,
         seed: Seed,
+        listed: RuleTexts,
     ) -> Result<Slice<Listing<'m, M>, Divergences<M::State>>, AllocError>
-        requires { limit ≤ 4294967295 }
+        requires limit { limit ≤ 4294967295 }
+        requires listed { IsListed (M.behaviour machine.now) listed }
+        requires few { btree_map_len listed ≤ limit }
         ensures finished { IfOk result (IfFinished (AreDivergencesOf (M.behaviour machine.now) limit)) }
         ensures unfinished { IfOk result (IfUnfinished (IsOf machine.now limit)) }
     {
@@ -76,7 +80,7 @@ impl<'m, M: Parted> Listing<'m, M> {
         };
         let found = FoundSoFar {
             trail: finder.begin()?,
-            list: BTreeMap::new(alloc),
+            list: listed,
             known: KnownSteps::new(alloc),
         };
         if limit == 0 {
@@ -154,19 +158,22 @@ impl<'m, M: Parted> Sliced for Listing<'m, M> {
 }
 
 /// Lists each pair of rules at which paths of a machine with the same cells diverge, with two
-/// texts, or finds the limit. The seed is as for `Listing::start`. `watch` hears of the progress
-/// before each slice of steps.
+/// texts, or finds the limit. The seed and what is listed already are as for `Listing::start`.
+/// `watch` hears of the progress before each slice of steps.
 pub fn list_divergences<M: Parted, W: Progress>(
     alloc: Global,
     machine: &M,
     limit: u64,
     seed: Seed,
+    listed: RuleTexts,
     watch: &mut W,
 ) -> Result<Divergences<M::State>, AllocError>
-    requires { limit ≤ 4294967295 }
+    requires limit { limit ≤ 4294967295 }
+    requires listed { IsListed (M.behaviour machine.now) listed }
+    requires few { btree_map_len listed ≤ limit }
     ensures { IfOk result (AreDivergencesOf (M.behaviour machine.now) limit) }
 {
-    let begun = Listing::start(alloc, machine, limit, seed)?;
+    let begun = Listing::start(alloc, machine, limit, seed, listed)?;
     run_to_end(begun, watch)
 }
 

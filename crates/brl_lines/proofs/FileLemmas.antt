@@ -9,9 +9,9 @@ use Rattle.std.specs.Option.{option_map_or}
 use Rattle.std.specs.Prelude.{String, is_some, not, slice_get, string_bytes}
 use Rattle.std.specs.Str.{IsCharBoundary, bytes_eq}
 use Rattle.std.proofs.lemmas.Map.Made.{lookup_key_passes}
-use Rattle.brl_lines.specs.Answer.{FileAnswer, Holds, Missing, FileAnswers, is_missing, most_file_bytes, MayAnswer}
+use Rattle.brl_lines.specs.Answer.{FileAnswer, Holds, FileAnswers, is_missing, most_file_bytes, MayAnswer}
 use Rattle.brl_lines.specs.Files.{Files, answer_for, answer_of_file, answers_of, lines_at, path_at, paths_of, span_lines, text_at, text_for}
-use Rattle.brl_lines.specs.Lines.{Answers, LocationView, answer_at, refusal, text_of}
+use Rattle.brl_lines.specs.Lines.{Answers, LocationView, answer_at, text_of}
 use Rattle.brl_lines.specs.Outcome.{AreGiven}
 use Rattle.brl_lines.specs.Rows.{order_mark, piece, without_mark}
 use Rattle.brl_lines.specs.Steps.{AreSpans, Extends, Fails, Finds, Grows, IsOpen, IsSpan, Reads, Sees}
@@ -19,10 +19,7 @@ use Rattle.brl_lines.specs.Tokens.{LineView, line_of, token_of, tokens}
 use Rattle.brl_lines.specs.declared.checked_file.CheckedFile.{CheckedFile}
 use Rattle.brl_failure.specs.declared.failure.Failure.{Failure}
 use Rattle.brl_failure.specs.declared.failure.Failure.TheVariants.{Fault, Memory}
-use Rattle.brl_failure.specs.Failure.{IfFault}
-use Rattle.brl_lines.specs.Views.{load_fault_view}
 use Rattle.brl_lines.specs.declared.fault.LoadFault.{LoadFault}
-use Rattle.brl_lines.specs.declared.fault.LoadFaultKind.TheVariants as kinds
 use Rattle.brl_lines.specs.declared.open_file.OpenFile.{OpenFile}
 use Rattle.brl_lines.specs.declared.span.LineSpan.{LineSpan}
 
@@ -72,17 +69,6 @@ get-kept [] ys i h = absurd (omega arith)
 get-kept (x ∷ xs) ys zero h = refl
 get-kept (x ∷ xs) ys (suc i) h = get-kept xs ys i (omega arith)
 
-pub path_at-kept : (files more : Files) (i : ℕ) → i < length files → path_at (files ++ more) i ≡ path_at files i
-path_at-kept files more i h = ap (λ file. option_map_or (λ (f : String Global × Option CheckedFile). string_bytes f.0) file []) (get-kept files more i h)
-
-pub text_at-kept : (files more : Files) (i : ℕ) → i < length files → text_at (files ++ more) i ≡ text_at files i
-text_at-kept files more i h = ap (λ file. option_map_or (λ (f : String Global × Option CheckedFile). text_for f.1) file []) (get-kept files more i h)
-
--- the file at the end
-pub get-last : {X : Type 0} (xs : List X) (x : X) → slice_get (xs ++ x ∷ []) (length xs) ≡ Some x
-get-last [] x = refl
-get-last (y ∷ xs) x = get-last xs x
-
 -- ---- files that were added
 
 module _ (gives : FileAnswers) (old new : Files) (grows : Grows gives old new) where
@@ -91,11 +77,14 @@ module _ (gives : FileAnswers) (old new : Files) (grows : Grows gives old new) w
       let whole : length new ≡ length old + length grows.more = ap length grows.kept ∙ length-append old grows.more in
       omega arith
 
-  pub path_at-grows : (i : ℕ) → i < length old → path_at new i ≡ path_at old i
-  path_at-grows i h = ap (λ (files : Files). path_at files i) grows.kept ∙ path_at-kept old grows.more i h
+  same-file : (i : ℕ) → i < length old → slice_get new i ≡ slice_get old i
+  same-file i h = ap (λ (files : Files). slice_get files i) grows.kept ∙ get-kept old grows.more i h
+
+  path_at-grows : (i : ℕ) → i < length old → path_at new i ≡ path_at old i
+  path_at-grows i h = ap (λ file. option_map_or (λ (f : String Global × Option CheckedFile). string_bytes f.0) file []) (same-file i h)
 
   pub text_at-grows : (i : ℕ) → i < length old → text_at new i ≡ text_at old i
-  text_at-grows i h = ap (λ (files : Files). text_at files i) grows.kept ∙ text_at-kept old grows.more i h
+  text_at-grows i h = ap (λ file. option_map_or (λ (f : String Global × Option CheckedFile). text_for f.1) file []) (same-file i h)
 
   pub extends-older : (answer : List ℕ → Option FileAnswer) → Extends new answer → Extends old answer
   extends-older answer h path a e =
@@ -155,49 +144,21 @@ answer_at-lookup (file ∷ files) path = by_test (bytes_eq path (string_bytes fi
     by_test true e = refl
     by_test false e = e
 
--- a text that the source gave is good
-module _ (files : Files) (path : List ℕ) (index : ℕ) (name : String Global) (file : CheckedFile) (at : slice_get files index ≡ Some (name, Some file)) (known : answer_at (answers_of files) path ≡ Some (Holds (string_bytes file.whole))) where
-  pub text-known : (answer : List ℕ → Option FileAnswer) → Extends files answer → (place : Option LocationView) → text_of path place (answer path) ≡ Ok (text_at files index)
-  text-known answer h place =
-      ap (text_of path place) (h path (Holds (string_bytes file.whole)) known)
-      ∙ file.good path place
-      ∙ ap (λ (f : Option (String Global × Option CheckedFile)). Ok (option_map_or (λ (g : String Global × Option CheckedFile). text_for g.1) f [])) (sym at)
-
-  pub path-known : string_bytes name ≡ path → path_at files index ≡ path
-  path-known e = ap (λ (f : Option (String Global × Option CheckedFile)). option_map_or (λ (g : String Global × Option CheckedFile). string_bytes g.0) f []) at ∙ e
-
 -- a file that was read before
-pub found-file : (gives : FileAnswers) (files : Files) (path : List ℕ) (index : ℕ) (name : String Global) (file : CheckedFile) → AreGiven gives (answers_of files)
-    → slice_get files index ≡ Some (name, Some file) → lookup_key (λ k. bytes_eq path (string_bytes k)) files ≡ Some name → lookup (λ k. bytes_eq path (string_bytes k)) files ≡ Some (Some file)
-    → Finds gives files files path index
-found-file gives files path index name file given at key value =
+pub found-file : (files : Files) (path : List ℕ) (index : ℕ) (name : String Global) (file : CheckedFile) → slice_get files index ≡ Some (name, Some file)
+    → lookup_key (λ k. bytes_eq path (string_bytes k)) files ≡ Some name → lookup (λ k. bytes_eq path (string_bytes k)) files ≡ Some (Some file)
+    → Finds files path index
+found-file files path index name file at key value =
     let known = answer_at-lookup files path ∙ ap (option_map answer_for) value in
-    let path_is : string_bytes name ≡ path = sym ((bytes_eq-Decides path (string_bytes name)).0 (lookup_key_passes (λ k. bytes_eq path (string_bytes k)) files name key)) in
     record {
-      grows = grows-none gives files given;
       within = slice_get_within files index (name, Some file) at;
-      path_is = path-known files path index name file at known path_is;
-      text_is = text-known files path index name file at known;
-    }
-
--- a file that is read now
-pub read-file : (gives : FileAnswers) (files new : Files) (path : List ℕ) (name : String Global) (file : CheckedFile) → AreGiven gives (answers_of files)
-    → answer_at (answers_of files) path ≡ None → string_bytes name ≡ path → MayAnswer gives path (Holds (string_bytes file.whole)) → new ≡ files ++ (name, Some file) ∷ []
-    → Finds gives files new path (length files)
-read-file gives files new path name file given none path_is gave e =
-    let answers : answers_of new ≡ answers_of files ++ (path, Holds (string_bytes file.whole)) ∷ [] =
-    ap answers_of e ∙ map-append answer_of_file files ((name, Some file) ∷ []) ∙ ap (λ (p : List ℕ). answers_of files ++ (p, Holds (string_bytes file.whole)) ∷ []) path_is in
-    let at : slice_get new (length files) ≡ Some (name, Some file) = ap (λ (fs : Files). slice_get fs (length files)) e ∙ get-last files (name, Some file) in
-    let known = ap (λ (known : Answers). answer_at known path) answers ∙ last (answers_of files) path (Holds (string_bytes file.whole)) none in
-    record {
-      grows = record {
-        more = (name, Some file) ∷ [];
-        kept = e;
-        given = subst (AreGiven gives) (sym answers) (given-more gives (answers_of files) path (Holds (string_bytes file.whole)) given gave);
-      };
-      within = slice_get_within new (length files) (name, Some file) at;
-      path_is = path-known new path (length files) name file at known path_is;
-      text_is = text-known new path (length files) name file at known;
+      path_is = ap (λ (f : Option (String Global × Option CheckedFile)). option_map_or (λ (g : String Global × Option CheckedFile). string_bytes g.0) f []) at
+          ∙ sym ((bytes_eq-Decides path (string_bytes name)).0 (lookup_key_passes (λ k. bytes_eq path (string_bytes k)) files name key));
+      text_is = λ answer h place.
+          ap (text_of path place) (h path (Holds (string_bytes file.whole)) known)
+          ∙ file.good path place
+          ∙ ap (λ (f : Option (String Global × Option CheckedFile)). Ok (option_map_or (λ (g : String Global × Option CheckedFile). text_for g.1) f []))
+          (sym at);
     }
 
 -- a file that wasn't read before
@@ -249,21 +210,6 @@ seen-before gives files path file there given value is = record {
   is = missing-is file ∙ ap not (sym is);
 }
 
--- a path where there was no file
-pub missing-refused : (gives : FileAnswers) (files : Files) (path : List ℕ) (place : Option LocationView) → AreGiven gives (answers_of files)
-    → lookup (λ k. bytes_eq path (string_bytes k)) files ≡ Some None → (failure : Failure LoadFault) → IfFault (λ fault. refusal kinds.NotFound path place ≡ load_fault_view fault) failure
-    → Fails gives files (λ answer. text_of path place (answer path)) failure
-missing-refused gives files path place given value Memory h = tt
-missing-refused gives files path place given value (Fault fault) h =
-    let known : answer_at (answers_of files) path ≡ Some Missing = answer_at-lookup files path ∙ ap (option_map answer_for) value in
-    record {
-      answers = answers_of files;
-      given = given;
-      extends = λ p a e. e;
-      fails = ap (text_of path place) known ∙ ap Err h;
-      unreadable = λ failed. let no = ap (λ r. r.kind) h ∙ failed in cc;
-    }
-
 -- ---- the text of a file
 
 pub text-at : (files : Files) (index : ℕ) (file : Option CheckedFile) → slice_get (values_of files) index ≡ Some file → text_for file ≡ text_at files index
@@ -274,30 +220,20 @@ text-at files index file e = by_file (slice_get files index) (sym (slice_get-map
     by_file None h = absurd cc
     by_file (Some entry) h = let same : entry.1 ≡ file = cc in ap text_for (sym same)
 
-take-less : (n : ℕ) (xs : List ℕ) → length (drop n xs) ≤ length xs
-take-less n xs = rw length-drop (omega arith)
-
 mark-less : (bytes : List ℕ) → length (without_mark bytes) ≤ length bytes
 mark-less bytes = by_test (bytes_eq (take 3 bytes) order_mark)
   where
     by_test : (b : Bool) → length (cond b (drop 3 bytes) bytes) ≤ length bytes
-    by_test true = take-less 3 bytes
+    by_test true = rw length-drop (omega arith)
     by_test false = omega arith
 
--- it isn't too long
-pub text_at-small : (files : Files) (index : ℕ) → length (text_at files index) ≤ most_file_bytes
+-- it isn't too long, and may be cut at its start
+pub text_at-small : (files : Files) (index : ℕ) → (length (text_at files index) ≤ most_file_bytes) × IsCharBoundary (text_at files index) 0
 text_at-small files index = by_file (slice_get files index)
   where
-    by_file : (f : Option (String Global × Option CheckedFile)) → length (option_map_or (λ (g : String Global × Option CheckedFile). text_for g.1) f []) ≤ most_file_bytes
-    by_file None = omega arith
-    by_file (Some (name, None)) = omega arith
-    by_file (Some (name, Some file)) = let small = file.small in let less = mark-less (string_bytes file.whole) in omega arith
+    text_if : Option (String Global × Option CheckedFile) → List ℕ
+    text_if f = option_map_or (λ (g : String Global × Option CheckedFile). text_for g.1) f []
 
--- it may be cut at its start
-pub text_at-starts : (files : Files) (index : ℕ) → IsCharBoundary (text_at files index) 0
-text_at-starts files index = by_file (slice_get files index)
-  where
-    by_file : (f : Option (String Global × Option CheckedFile)) → IsCharBoundary (option_map_or (λ (g : String Global × Option CheckedFile). text_for g.1) f []) 0
-    by_file None = (omega arith, λ some. absurd (omega arith))
-    by_file (Some (name, None)) = (omega arith, λ some. absurd (omega arith))
-    by_file (Some (name, Some file)) = file.starts
+    by_file : (f : Option (String Global × Option CheckedFile)) → (length (text_if f) ≤ most_file_bytes) × IsCharBoundary (text_if f) 0
+    by_file (Some (name, Some file)) = let small = file.small in let less = mark-less (string_bytes file.whole) in (omega arith, file.starts)
+    by_file f = (omega arith, (omega arith, λ some. absurd (omega arith)))

@@ -9,7 +9,6 @@ pub mod FolderLemmas
 pub mod LineLemmas
 pub mod LoopLemmas
 pub mod MemoryLemmas
-pub mod MissingLemmas
 pub mod MoreLemmas
 pub mod NumberLemmas
 pub mod PieceLemmas

@@ -23,7 +23,7 @@ use Rattle.brl_lines.specs.declared.row.RowKind.TheVariants.{Include, Line, Noth
 use Rattle.brl_lines.specs.declared.span.LineSpan.{LineSpan}
 use Rattle.brl_lines.specs.declared.way.Policy.{Policy}
 use Rattle.brl_lines.proofs.ExpandLemmas.{fails-later, fails-more, row-include, row-line, row-nothing}
-use Rattle.brl_lines.proofs.FileLemmas.{extends-older, grows-none, grows-twice, lines_at-grows, open-grows, spans-grow, text_at-grows, text_at-small, text_at-starts}
+use Rattle.brl_lines.proofs.FileLemmas.{extends-older, grows-none, grows-twice, lines_at-grows, open-grows, spans-grow, text_at-grows, text_at-small}
 use Rattle.brl_lines.proofs.LineLemmas.{lines_from-end, lines_from-whole}
 
 -- a span more
@@ -55,11 +55,15 @@ module _ (gives : FileAnswers) (policy : Policy) (root : List ℕ) (file : OpenF
   abbrev whole : (List ℕ → Option FileAnswer) → Result Walk Refusal
   whole answer = walk_in policy gives.folders root file text answer (walk_view old)
 
-  -- the rows up to a place were added
-  pub record Added (now : Expansion) (number at : ℕ) : Type 0 where
+  -- the text may be cut at a place before which there are fewer rows than this number
+  pub record IsPlace (number at : ℕ) : Type 0 where
     pub boundary : IsCharBoundary text at
     pub within : at ≤ length text
     pub few : number ≤ at + 1
+
+  -- the rows up to a place were added
+  pub record Added (now : Expansion) (number at : ℕ) : Type 0 where
+    pub place : IsPlace number at
     pub grows : Grows gives old.files.entries now.files.entries
     pub spans : AreSpans now.files.entries now.spans.items
     pub so_far : (answer : List ℕ → Option FileAnswer) → Extends now.files.entries answer → expanded (takes answer) (left number at) (walk_view now) ≡ whole answer
@@ -68,9 +72,7 @@ module _ (gives : FileAnswers) (policy : Policy) (root : List ℕ) (file : OpenF
     -- none yet
     pub added-none : Added old 1 0
     added-none = record {
-      boundary = text_at-starts old.files.entries file.index;
-      within = omega arith;
-      few = omega arith;
+      place = record { boundary = (text_at-small old.files.entries file.index).1; within = omega arith; few = omega arith };
       grows = grows-none gives old.files.entries ready.given;
       spans = ready.spans;
       so_far = λ answer extends. ap (λ (lines : List LineView). expanded (takes answer) lines (walk_view old)) (lines_from-whole (string_bytes file.path) text);
@@ -85,14 +87,14 @@ module _ (gives : FileAnswers) (policy : Policy) (root : List ℕ) (file : OpenF
       still-open = open-grows gives old.files.entries now.files.entries added.grows file ready.opened
 
       pub still-within : at ≤ length (text_at now.files.entries file.index)
-      still-within = subst (λ (t : List ℕ). at ≤ length t) (sym same_text) added.within
+      still-within = subst (λ (t : List ℕ). at ≤ length t) (sym same_text) added.place.within
 
       pub still-boundary : IsCharBoundary (text_at now.files.entries file.index) at
-      still-boundary = subst (λ (t : List ℕ). IsCharBoundary t at) (sym same_text) added.boundary
+      still-boundary = subst (λ (t : List ℕ). IsCharBoundary t at) (sym same_text) added.place.boundary
 
       -- the rows are few
       pub number-small : number < 4294967295
-      number-small = let small = text_at-small old.files.entries file.index in omega (arith, small, added.within, added.few)
+      number-small = let small = text_at-small old.files.entries file.index in omega (arith, small.0, added.place.within, added.place.few)
 
       -- all of them
       pub added-all : at ≡ length (text_at now.files.entries file.index) → Expands gives old now (walk_in policy gives.folders root file text)
@@ -112,11 +114,14 @@ module _ (gives : FileAnswers) (policy : Policy) (root : List ℕ) (file : OpenF
         pub row-smaller : length text - row.next < length text - at
         row-smaller = omega (arith, is.after, row-within)
 
-        row-boundary : IsCharBoundary text row.next
-        row-boundary = subst (λ (t : List ℕ). IsCharBoundary t row.next) same_text is.boundary
-
-        row-few : number + 1 ≤ row.next + 1
-        row-few = omega (arith, is.after, added.few)
+        row-place : IsPlace (number + 1) row.next
+        row-place =
+            record {
+              boundary = subst (λ (t : List ℕ). IsCharBoundary t row.next) same_text is.boundary;
+              within = row-within;
+              few = omega
+                  (arith, is.after, added.place.few);
+            }
 
         cut : left number at ≡ span_lines now.files.entries row.span ++ left (number + 1) row.next
         cut = subst
@@ -130,9 +135,7 @@ module _ (gives : FileAnswers) (policy : Policy) (root : List ℕ) (file : OpenF
         -- it does nothing
         pub added-nothing : row.kind ≡ Nothing → Added now (number + 1) row.next
         added-nothing e = record {
-          boundary = row-boundary;
-          within = row-within;
-          few = row-few;
+          place = row-place;
           grows = added.grows;
           spans = added.spans;
           so_far = λ answer extends.
@@ -145,9 +148,7 @@ module _ (gives : FileAnswers) (policy : Policy) (root : List ℕ) (file : OpenF
         added-line e spans pushed =
             let kind = kind_is Line e in
             record {
-              boundary = row-boundary;
-              within = row-within;
-              few = row-few;
+              place = row-place;
               grows = added.grows;
               spans = subst (AreSpans now.files.entries) (sym pushed) (spans-push now.files.entries now.spans.items row.span added.spans is.span);
               so_far = λ answer extends.
@@ -201,9 +202,7 @@ module _ (gives : FileAnswers) (policy : Policy) (root : List ℕ) (file : OpenF
             -- past the line
             pub added-past : inner ≡ None → Added entered (number + 1) row.next
             added-past none = record {
-              boundary = row-boundary;
-              within = row-within;
-              few = row-few;
+              place = row-place;
               grows = both;
               spans = inner-spans;
               so_far = λ answer extends.
@@ -228,9 +227,7 @@ module _ (gives : FileAnswers) (policy : Policy) (root : List ℕ) (file : OpenF
               -- or were added
               pub added-inner : (new : Expansion) → Expands gives entered new inside → Added new (number + 1) row.next
               added-inner new expands = record {
-                boundary = row-boundary;
-                within = row-within;
-                few = row-few;
+                place = row-place;
                 grows = grows-twice gives old.files.entries entered.files.entries new.files.entries both expands.grows;
                 spans = expands.spans;
                 so_far = λ answer extends.

@@ -10,6 +10,7 @@ use Rattle.brl_lines.specs.Lines.{Answers, LocationView, Refusal, answer_at, lin
 use Rattle.brl_lines.specs.Outcome.{AreGiven, AreLinesOf, IsLoadFault, IsRefusedAs}
 use Rattle.brl_lines.specs.Views.{load_fault_view}
 use Rattle.brl_lines.specs.Tokens.{LineView}
+use Rattle.brl_lines.proofs.FindingLemmas.{same_refusal}
 use Rattle.brl_lines.proofs.MoreLemmas.{lines_over-more}
 use Rattle.brl_lines.specs.declared.fault.LoadFault.{LoadFault}
 use Rattle.brl_failure.specs.declared.failure.Failure.{Failure}
@@ -50,21 +51,12 @@ module _ (gives : FileAnswers) where
 -- a fault is of a read that failed, or it isn't
 pub read_failed_or_not : (kind : LoadFaultKind) → (kind ≡ kinds.ReadFailed) ⊎ (kind ≡ kinds.ReadFailed → ⊥)
 read_failed_or_not kinds.ReadFailed = inl refl
-read_failed_or_not kinds.NotFound = inr (λ e. cc)
-read_failed_or_not kinds.NotUtf8 = inr (λ e. cc)
-read_failed_or_not kinds.Cycle = inr (λ e. cc)
-read_failed_or_not kinds.TooDeep = inr (λ e. cc)
-read_failed_or_not kinds.LineTooLong = inr (λ e. cc)
-read_failed_or_not kinds.TooManyIncludes = inr (λ e. cc)
-read_failed_or_not kinds.TooLarge = inr (λ e. cc)
+read_failed_or_not kind = inr (λ e. cc)
 
 -- where no read failed, the lines aren't refused as a read that failed
 pub never_unread : (lines : Result (List LineView) Refusal) (want : Refusal) → lines ≡ Err want → (want.kind ≡ kinds.ReadFailed → ⊥)
     → (path : List ℕ) (place : Option LocationView) → lines ≡ Err (refusal kinds.ReadFailed path place) → ⊥
-never_unread lines want h other path place e = other (ap (λ r. r.kind) (same (sym h ∙ e)))
-  where
-    same : {r s : Refusal} → ◌≡◌ {A = Result (List LineView) Refusal} (Err r) (Err s) → r ≡ s
-    same e = cc
+never_unread lines want h other path place e = other (ap (λ r. r.kind) (same_refusal (sym h ∙ e)))
 
 -- A load of files that can all be read gives what the definition gives for all of them.
 module _ (folders : List (List ℕ)) (all : List ℕ → FileAnswer) (readable : (path : List ℕ) → Unreadable ≡ all path → ⊥) (root : List ℕ) where

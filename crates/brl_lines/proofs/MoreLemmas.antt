@@ -8,11 +8,7 @@ use Rattle.brl_lines.specs.Lines.{Follow, LocationView, Refusal, Take, Walk, apa
 use Rattle.brl_lines.specs.Tokens.{LineView, lines_in}
 use Rattle.brl_lines.specs.declared.fault.LoadFaultKind.TheVariants as kinds
 use Rattle.brl_lines.specs.declared.way.Policy.TheVariants as policies
-use Rattle.brl_lines.proofs.FindingLemmas.{there-by-text}
-
--- the two are one refusal
-same_refusal : {A : Type 0} {r s : Refusal} → ◌≡◌ {A = Result A Refusal} (Err r) (Err s) → r ≡ s
-same_refusal e = cc
+use Rattle.brl_lines.proofs.FindingLemmas.{same_refusal, there-by-text}
 
 module _ (f g : List ℕ → Option FileAnswer) (extends : (path : List ℕ) (answer : FileAnswer) → f path ≡ Some answer → g path ≡ Some answer) where
   -- a file was asked for that has no answer in f; where it can't be read by g, so is the whole
@@ -87,7 +83,7 @@ module _ (f g : List ℕ → Option FileAnswer) (extends : (path : List ℕ) (an
           subst (λ (b : Option FileAnswer). (two (is_missing b) ≡ one (is_missing (Some a))) ⊎ FindsOrAsks (one (is_missing (Some a))) (two (is_missing b))) (sym (extends path a known)) (by_known (is_missing (Some a)) later)
 
   unread-there : (path : List ℕ) (place : Option LocationView) (a : Option FileAnswer) → text_of path place a ≡ Err (refusal kinds.ReadFailed path place) → is_missing a ≡ false
-  unread-there path place a e = there-by-text path place a (refusal kinds.ReadFailed path place) e (λ no. cc)
+  unread-there path place a e = there-by-text path place a (λ no. let kind = ap (λ r. r.kind) (same_refusal (sym e ∙ no)) in cc)
 
   -- what is done with the file that is found
   module _ {X : Type 0} (place : Option LocationView) (paths : List (List ℕ)) (other : List ℕ) (h k : List ℕ → Result X Refusal)

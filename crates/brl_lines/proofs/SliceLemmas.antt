@@ -1,5 +1,6 @@
 -- Where the rows and the tokens of a text are in it.
 use Rattle.std.proofs.Common.{◌≡◌, ℕ, zero, suc, ◌+◌, ◌-◌, ◌<◌, ◌≤◌, Bool, true, false, cond, List, [], ◌∷◌, length, get_or, take, drop, map, refl, ap, sym, ◌∙◌, subst, arith, add-one, drop-cons, lit<, length-drop, All}
+use Rattle.std.proofs.lemmas.List.{length-map}
 use Rattle.std.specs.List.{AllByRecursion, enumerate_from}
 use Rattle.brl_lines.specs.Rows.{onto, piece}
 use Rattle.brl_lines.specs.Slices.{IsSlice, IsCutFrom, BeginsAfter, AreInOrder, IsInOrder}
@@ -73,13 +74,9 @@ module _ (text : List ℕ) where
   start_of i [] h l = absurd (omega arith)
   start_of i (b ∷ bs) h l = h.0
 
-  length-bytes : (bs : List (ℕ × ℕ)) → length (map (λ c. c.1) bs) ≡ length bs
-  length-bytes [] = refl
-  length-bytes (b ∷ bs) = ap suc (length-bytes bs)
-
   length-token : (t : List (ℕ × ℕ)) → length (token_of t).text ≡ length t
   length-token [] = refl
-  length-token (b ∷ bs) = ap suc (length-bytes bs)
+  length-token (b ∷ bs) = ap suc (length-map bs (λ c. c.1))
 
   pub slices : (i : ℕ) (ts : List (List (ℕ × ℕ))) → AreTokensFrom i ts → AllByRecursion (IsSlice text) (map token_of ts)
   slices i [] h = tt

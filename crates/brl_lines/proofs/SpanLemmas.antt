@@ -1,6 +1,6 @@
 -- The lines at spans: slices of their files' texts, with their tokens in order.
 use Rattle.std.proofs.Common.{◌≡◌, ◌∙◌, ◌⊎◌, inl, inr, ℕ, zero, suc, ◌-◌, ◌<◌, List, [], ◌∷◌, ◌++◌, length, map, take, refl, ap, sym, subst, All, arith, None, Some}
-use Rattle.std.proofs.lemmas.List.{drop_all}
+use Rattle.std.proofs.Math.Seq.{drop-nil, take-nil}
 use Rattle.std.specs.List.{AllByRecursion, enumerate_from}
 use Rattle.std.specs.Prelude.{string_bytes}
 use Rattle.brl_lines.specs.Answer.{Holds, FileAnswers, MayAnswer}
@@ -40,11 +40,7 @@ gave-file gives (file ∷ files) (suc index) given less = gave-file gives files 
 
 -- nothing has no lines
 no_piece : (i j : ℕ) → piece [] i j ≡ []
-no_piece i j = ap (λ (bs : List ℕ). enumerate_from i bs) (ap (take (j - i)) (drop_all i [] (omega arith)) ∙ taken (j - i))
-  where
-    taken : (n : ℕ) → take {A = ℕ} n [] ≡ []
-    taken zero = refl
-    taken (suc n) = refl
+no_piece i j = ap (λ (bs : List ℕ). enumerate_from i bs) (ap (take (j - i)) (drop-nil i) ∙ take-nil (j - i))
 
 no_lines : (files : Files) (span : LineSpan) → text_at files span.file ≡ [] → span_lines files span ≡ []
 no_lines files span none =

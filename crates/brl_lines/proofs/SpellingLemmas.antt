@@ -1,5 +1,5 @@
 -- What characters are spelled by, and that it is read back.
-use Rattle.std.proofs.Common.{◌≡◌, ℕ, suc, ◌+◌, ◌*◌, ◌/◌, ◌%◌, ◌<◌, ◌==◌, ◌&&◌, ◌⊎◌, true, false, cond, if◌then◌else◌, Bool, nat_eq, nat_lt, List, [], ◌∷◌, ◌++◌, refl, ap, sym, subst, ◌∙◌, arith, inl, inr, Option, Some, None, Ok, ok_or, option_map, codes, find, length, take, get_or, lit<}
+use Rattle.std.proofs.Common.{◌≡◌, ℕ, suc, ◌+◌, ◌*◌, ◌/◌, ◌%◌, ◌<◌, ◌==◌, ◌⊎◌, true, false, cond, if◌then◌else◌, Bool, nat_eq, nat_lt, List, [], ◌∷◌, ◌++◌, refl, ap, sym, subst, ◌∙◌, arith, inl, inr, Option, Some, None, Ok, ok_or, option_map, codes, find, flat_map, length, take, get_or}
 use Rattle.std.proofs.lemmas.Bool.{eqb-true, and_from, and_parts, lt-ltb}
 use Rattle.std.proofs.lemmas.Bool.Decides.{nat_tests}
 use Rattle.std.proofs.lemmas.List.{flat_map_more, take_more}
@@ -13,6 +13,7 @@ use Rattle.brl_lines.proofs.EscapeLemmas.{escape-numbered, spelled-escape, spell
 use Rattle.brl_lines.proofs.RowLemmas.{not_equal}
 use Rattle.brl_lines.specs.Escapes.{characters_of, hexadecimal, named, numbered, or_else, spelled}
 use Rattle.brl_lines.specs.declared.operand.CharsFault.TheVariants.{BadEscape}
+use Rattle.brl_lines.specs.Visible.{two_digits}
 use Rattle.brl_lines.specs.Spelling.{character_spelling, escape_marks, means, spelled_by_mark, text_spelling}
 
 -- a control character is below 128
@@ -23,15 +24,21 @@ control_small c control = grind (arith, nat_tests)
 pub digit_small : (d : ℕ) → d < 16 → digit_char d < 128
 digit_small d small = grind (arith, nat_tests)
 
+-- two digits are marks of ASCII
+pub two_digits_ascii : (n : ℕ) → n < 256 → encode_utf8_all (two_digits n) ≡ digit_glyph false (n / 16) ∷ digit_glyph false (n % 16) ∷ []
+two_digits_ascii n small =
+    let high : digit_char (n / 16) < 128 = digit_small (n / 16) (omega arith) in
+    let low : digit_char (n % 16) < 128 = digit_small (n % 16) (omega arith) in
+    rw (encode_ascii (digit_char (n / 16)) high, encode_ascii (digit_char (n % 16)) low) refl
+
 -- a control character that has no escape of one mark
 pub spelled-control : (c : ℕ) → is_ascii_control c ≡ true → find (means c) escape_marks ≡ None
     → encode_utf8_all (character_spelling c) ≡ codes "\\x00" ++ digit_glyph false (c / 16) ∷ digit_glyph false (c % 16) ∷ []
 unfolding encode_utf8
 spelled-control c control none =
     let small = control_small c control in
-    let high : digit_char (c / 16) < 128 = digit_small (c / 16) (omega arith) in
-    let low : digit_char (c % 16) < 128 = digit_small (c % 16) (omega arith) in
-    ap (λ m. encode_utf8_all (spelled_by_mark m c)) none ∙ rw (control, encode_ascii (digit_char (c / 16)) high, encode_ascii (digit_char (c % 16)) low) refl
+    let digits = two_digits_ascii c (omega (arith, small)) in
+    ap (λ m. encode_utf8_all (spelled_by_mark m c)) none ∙ rw control (ap (λ bytes. codes "\\x00" ++ bytes) digits)
 
 -- ---- what is spelled is read back
 
@@ -68,19 +75,28 @@ hexadecimal-more count value d rest small =
     let is : nat_lt d 16 ≡ true = lt-ltb d 16 small in
     rw (digit_value-digit_char d (omega (arith, small)), is) refl
 
-four_digits : (c : ℕ) (rest : List ℕ) → c < 128 → hexadecimal 4 0 (48 ∷ 48 ∷ digit_char (c / 16) ∷ digit_char (c % 16) ∷ rest) ≡ Some c
+-- four digits that follow some that write a value
+pub last_digits : (c value : ℕ) (rest : List ℕ) → value ≡ c / 0x10000
+    → hexadecimal 4 value (two_digits (c / 256 % 256) ++ (two_digits (c % 256) ++ rest)) ≡ Some c
 unfolding hexadecimal
-four_digits c rest small =
-    let high : c / 16 < 16 = omega arith in
-    let low : c % 16 < 16 = omega arith in
-    let first : 0 * 16 + c / 16 ≡ c / 16 = omega arith in
-    let whole : c / 16 * 16 + c % 16 ≡ c = omega arith in
-    hexadecimal-more 3 0 0 (48 ∷ digit_char (c / 16) ∷ digit_char (c % 16) ∷ rest) (lit< tt)
-    ∙ hexadecimal-more 2 0 0 (digit_char (c / 16) ∷ digit_char (c % 16) ∷ rest) (lit< tt)
-    ∙ hexadecimal-more 1 0 (c / 16) (digit_char (c % 16) ∷ rest) high
-    ∙ ap (λ value. hexadecimal 1 value (digit_char (c % 16) ∷ rest)) first
-    ∙ hexadecimal-more 0 (c / 16) (c % 16) rest low
+last_digits c value rest is =
+    let a = c / 256 % 256 in
+    let b = c % 256 in
+    let v1 = value * 16 + a / 16 in
+    let v2 = v1 * 16 + a % 16 in
+    let v3 = v2 * 16 + b / 16 in
+    let whole : v3 * 16 + b % 16 ≡ c = omega arith in
+    hexadecimal-more 3 value (a / 16) (digit_char (a % 16) ∷ (two_digits b ++ rest)) (omega arith)
+    ∙ hexadecimal-more 2 v1 (a % 16) (two_digits b ++ rest) (omega arith)
+    ∙ hexadecimal-more 1 v2 (b / 16) (digit_char (b % 16) ∷ rest) (omega arith)
+    ∙ hexadecimal-more 0 v3 (b % 16) rest (omega arith)
     ∙ ap Some whole
+
+four_digits : (c : ℕ) (rest : List ℕ) → c < 128 → hexadecimal 4 0 (48 ∷ 48 ∷ digit_char (c / 16) ∷ digit_char (c % 16) ∷ rest) ≡ Some c
+four_digits c rest small =
+    let high : c / 256 % 256 ≡ 0 = omega arith in
+    let low : c % 256 ≡ c = omega arith in
+    rw (high, low) at (last_digits c 0 rest (omega arith))
 
 -- the first character that a spelling spells
 plain_back : (c : ℕ) (rest : List ℕ) (control : Bool) → IsScalar c → is_ascii_control c ≡ control → nat_eq c 92 ≡ false
@@ -90,19 +106,21 @@ plain_back c rest true s e plain =
     spelled-escape 92 (120 ∷ marks) c 5 refl (escape-numbered 120 4 c marks refl refl (four_digits c rest (control_small c e)) s)
 plain_back c rest false s e plain = spelled-plain c rest plain
 
-pub character_back : (c : ℕ) (rest : List ℕ) (found : Option ℕ) → IsScalar c → find (means c) escape_marks ≡ found
+character_back : (c : ℕ) (rest : List ℕ) (found : Option ℕ) → IsScalar c → find (means c) escape_marks ≡ found
     → spelled 0 (spelled_by_mark found c ++ rest) ≡ option_map (λ cs. c ∷ cs) (spelled 0 rest)
 character_back c rest None s e = plain_back c rest (is_ascii_control c) s refl (none_plain c e)
 character_back c rest (Some mark) s e =
     let is = (find_means c escape_marks mark refl e).0 in
     spelled-escape 92 (mark ∷ rest) c 1 refl (ap (λ o. or_else o (numbered mark rest)) is)
 
-text_back : (text : List ℕ) → all_scalars text ≡ true → spelled 0 (text_spelling text) ≡ Some text
+-- where each character can be read back from its spelling, so can a whole text
+pub flat_back : (f : ℕ → List ℕ) → ((c : ℕ) (rest : List ℕ) → IsScalar c → spelled 0 (f c ++ rest) ≡ option_map (λ cs. c ∷ cs) (spelled 0 rest))
+    → (text : List ℕ) → all_scalars text ≡ true → spelled 0 (flat_map f text) ≡ Some text
 unfolding spelled
-text_back [] s = refl
-text_back (c ∷ text) s =
+flat_back f back [] s = refl
+flat_back f back (c ∷ text) s =
     let both = and_parts (scalar c) (all_scalars text) s in
-    character_back c (text_spelling text) (find (means c) escape_marks) both.0 refl ∙ ap (option_map (λ cs. c ∷ cs)) (text_back text both.1)
+    back c (flat_map f text) both.0 ∙ ap (option_map (λ cs. c ∷ cs)) (flat_back f back text both.1)
 
 -- ---- a spelling is a text
 
@@ -110,29 +128,35 @@ pub scalars-append : (xs ys : List ℕ) → all_scalars xs ≡ true → all_scal
 scalars-append [] ys s t = t
 scalars-append (x ∷ xs) ys s t = let both = and_parts (scalar x) (all_scalars xs) s in and_from (scalar x) (all_scalars (xs ++ ys)) both.0 (scalars-append xs ys both.1 t)
 
+pub digit_scalar : (d : ℕ) → d < 16 → scalar (digit_char d) ≡ true
+digit_scalar d small = low_scalar (digit_char d) (let low = digit_small d small in omega (arith, low))
+
+pub two_scalars : (n : ℕ) → n < 256 → all_scalars (two_digits n) ≡ true
+two_scalars n small =
+    and_from (scalar (digit_char (n / 16))) (all_scalars (digit_char (n % 16) ∷ [])) (digit_scalar (n / 16) (omega arith))
+    (and_from (scalar (digit_char (n % 16))) true (digit_scalar (n % 16) (omega arith)) refl)
+
 plain_scalars : (c : ℕ) (control : Bool) → IsScalar c → is_ascii_control c ≡ control
-    → all_scalars (if control then codes "\\x00" ++ digit_char (c / 16) ∷ digit_char (c % 16) ∷ [] else c ∷ []) ≡ true
-plain_scalars c true s e =
-    let small = control_small c e in
-    let high = digit_small (c / 16) (omega arith) in
-    let low = digit_small (c % 16) (omega arith) in
-    and_from (scalar (digit_char (c / 16))) (scalar (digit_char (c % 16)) && true) (low_scalar (digit_char (c / 16)) (omega (arith, high)))
-    (and_from (scalar (digit_char (c % 16))) true (low_scalar (digit_char (c % 16)) (omega (arith, low))) refl)
+    → all_scalars (if control then codes "\\x00" ++ two_digits c else c ∷ []) ≡ true
+plain_scalars c true s e = let small = control_small c e in two_scalars c (omega (arith, small))
 plain_scalars c false s e = and_from (scalar c) true s refl
 
-pub character_scalars : (c : ℕ) (found : Option ℕ) → IsScalar c → find (means c) escape_marks ≡ found → all_scalars (spelled_by_mark found c) ≡ true
+character_scalars : (c : ℕ) (found : Option ℕ) → IsScalar c → find (means c) escape_marks ≡ found → all_scalars (spelled_by_mark found c) ≡ true
 character_scalars c None s e = plain_scalars c (is_ascii_control c) s refl
 character_scalars c (Some mark) s e = and_from (scalar mark) true (find_means c escape_marks mark refl e).1 refl
 
-text_scalars : (text : List ℕ) → all_scalars text ≡ true → all_scalars (text_spelling text) ≡ true
-text_scalars [] s = refl
-text_scalars (c ∷ text) s =
-    let both = and_parts (scalar c) (all_scalars text) s in
-    scalars-append (character_spelling c) (text_spelling text) (character_scalars c (find (means c) escape_marks) both.0 refl) (text_scalars text both.1)
+pub flat_scalars : (f : ℕ → List ℕ) → ((c : ℕ) → IsScalar c → all_scalars (f c) ≡ true) → (text : List ℕ) → all_scalars text ≡ true
+    → all_scalars (flat_map f text) ≡ true
+flat_scalars f each [] s = refl
+flat_scalars f each (c ∷ text) s =
+    let both = and_parts (scalar c) (all_scalars text) s in scalars-append (f c) (flat_map f text) (each c both.0) (flat_scalars f each text both.1)
 
 -- the text that spells characters is read back
 pub spelling_back : (text bytes : List ℕ) → all_scalars text ≡ true → bytes ≡ encode_utf8_all (text_spelling text) → characters_of bytes ≡ Ok text
-spelling_back text bytes s e = ap characters_of e ∙ ap (λ o. ok_or o BadEscape) (ap (spelled 0) (chars-encodes (text_spelling text) (text_scalars text s)) ∙ text_back text s)
+spelling_back text bytes s e =
+    let scalars = flat_scalars character_spelling (λ c s. character_scalars c (find (means c) escape_marks) s refl) text s in
+    let back = flat_back character_spelling (λ c rest s. character_back c rest (find (means c) escape_marks) s refl) text s in
+    ap characters_of e ∙ ap (λ o. ok_or o BadEscape) (ap (spelled 0) (chars-encodes (text_spelling text) scalars) ∙ back)
 
 -- ---- one character more
 

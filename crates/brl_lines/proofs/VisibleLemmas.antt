@@ -7,23 +7,16 @@ use Rattle.std.proofs.lemmas.Str.{chars-encodes, encode_ascii, encodes-append}
 use Rattle.std.specs.Char.{IsScalar, digit_char}
 use Rattle.std.specs.Fmt.{digit_glyph}
 use Rattle.std.specs.Str.{all_scalars, encode_utf8_all}
-use lib.Utf8.{low_scalar, scalar, scalar_cases}
+use lib.Utf8.{scalar, scalar_cases}
 use Rattle.brl_lines.proofs.EscapeLemmas.{escape-numbered, spelled-escape, spelled-plain}
-use Rattle.brl_lines.proofs.SpellingLemmas.{digit_small, find_means, hexadecimal-more, none_plain, scalars-append}
-use Rattle.brl_lines.specs.Escapes.{characters_of, hexadecimal, numbered, or_else, spelled}
+use Rattle.brl_lines.proofs.SpellingLemmas.{digit_scalar, digit_small, find_means, flat_back, flat_scalars, hexadecimal-more, last_digits, none_plain, scalars-append, two_scalars}
+use Rattle.brl_lines.specs.Escapes.{characters_of, numbered, or_else, spelled}
 use Rattle.brl_lines.specs.Spelling.{escape_marks, means}
 use Rattle.brl_lines.specs.Tokens.{is_gap}
 use Rattle.brl_lines.specs.Visible.{by_mark, by_number, is_hidden, line_character, line_from, number_prefix, two_digits, visible_character, visible_text}
 use Rattle.brl_lines.specs.declared.operand.CharsFault.TheVariants.{BadEscape}
 
--- two digits are marks of ASCII
-pub two_digits_ascii : (n : ℕ) → n < 256 → encode_utf8_all (two_digits n) ≡ digit_glyph false (n / 16) ∷ digit_glyph false (n % 16) ∷ []
-two_digits_ascii n small =
-    let high : digit_char (n / 16) < 128 = digit_small (n / 16) (omega arith) in
-    let low : digit_char (n % 16) < 128 = digit_small (n % 16) (omega arith) in
-    rw (encode_ascii (digit_char (n / 16)) high, encode_ascii (digit_char (n % 16)) low) refl
-
--- so is one
+-- a digit is a mark of ASCII
 pub digit_ascii : (d : ℕ) → d < 16 → encode_utf8_all (digit_char d ∷ []) ≡ digit_glyph false d ∷ []
 digit_ascii d small =
     let low : digit_char d < 128 = digit_small d small in
@@ -54,22 +47,6 @@ text_written text rest first front old is first_is =
 
 pub scalar_small : (c : ℕ) → IsScalar c → c < 0x110000
 scalar_small c s = elim (scalar_cases c s) [ inl low ↦ omega arith | inr high ↦ high.1 ]
-
--- four digits that follow some that write a value
-last_digits : (c value : ℕ) (rest : List ℕ) → value ≡ c / 0x10000 → hexadecimal 4 value (two_digits (c / 256 % 256) ++ (two_digits (c % 256) ++ rest)) ≡ Some c
-unfolding hexadecimal
-last_digits c value rest is =
-    let a = c / 256 % 256 in
-    let b = c % 256 in
-    let v1 = value * 16 + a / 16 in
-    let v2 = v1 * 16 + a % 16 in
-    let v3 = v2 * 16 + b / 16 in
-    let whole : v3 * 16 + b % 16 ≡ c = omega arith in
-    hexadecimal-more 3 value (a / 16) (digit_char (a % 16) ∷ (two_digits b ++ rest)) (omega arith)
-    ∙ hexadecimal-more 2 v1 (a % 16) (two_digits b ++ rest) (omega arith)
-    ∙ hexadecimal-more 1 v2 (b / 16) (digit_char (b % 16) ∷ rest) (omega arith)
-    ∙ hexadecimal-more 0 v3 (b % 16) rest (omega arith)
-    ∙ ap Some whole
 
 -- what is after the escape of a character by its number
 numbered_back : (c : ℕ) (rest : List ℕ) (short middle : Bool) → IsScalar c → nat_lt c 0x10000 ≡ short → nat_lt c 0x100000 ≡ middle
@@ -113,29 +90,16 @@ visible_back first c rest (Some mark) s e =
     let is = (find_means c escape_marks mark refl e).0 in
     spelled-escape 92 (mark ∷ rest) c 1 refl (ap (λ o. or_else o (numbered mark rest)) is)
 
-rest_back : (text : List ℕ) → all_scalars text ≡ true → spelled 0 (flat_map (visible_character false) text) ≡ Some text
-unfolding spelled
-rest_back [] s = refl
-rest_back (c ∷ text) s =
-    let both = and_parts (scalar c) (all_scalars text) s in
-    visible_back false c (flat_map (visible_character false) text) (find (means c) escape_marks) both.0 refl ∙ ap (option_map (λ cs. c ∷ cs)) (rest_back text both.1)
-
 text_back : (text : List ℕ) → all_scalars text ≡ true → spelled 0 (visible_text text) ≡ Some text
 unfolding spelled
 text_back [] s = refl
 text_back (c ∷ text) s =
     let both = and_parts (scalar c) (all_scalars text) s in
-    visible_back true c (flat_map (visible_character false) text) (find (means c) escape_marks) both.0 refl ∙ ap (option_map (λ cs. c ∷ cs)) (rest_back text both.1)
+    visible_back true c (flat_map (visible_character false) text) (find (means c) escape_marks) both.0 refl
+    ∙ ap (option_map (λ cs. c ∷ cs)) (flat_back (visible_character false)
+    (λ c rest s. visible_back false c rest (find (means c) escape_marks) s refl) text both.1)
 
 -- ---- What is written is a text
-
-digit_scalar : (d : ℕ) → d < 16 → scalar (digit_char d) ≡ true
-digit_scalar d small = low_scalar (digit_char d) (let low = digit_small d small in omega (arith, low))
-
-two_scalars : (n : ℕ) → n < 256 → all_scalars (two_digits n) ≡ true
-two_scalars n small =
-    and_from (scalar (digit_char (n / 16))) (all_scalars (digit_char (n % 16) ∷ [])) (digit_scalar (n / 16) (omega arith))
-    (and_from (scalar (digit_char (n % 16))) true (digit_scalar (n % 16) (omega arith)) refl)
 
 prefix_scalars : (c : ℕ) (short middle : Bool) → IsScalar c → nat_lt c 0x10000 ≡ short → nat_lt c 0x100000 ≡ middle
     → all_scalars (if short then codes "\\x" else if middle then codes "\\y" ++ (digit_char (c / 0x10000) ∷ []) else codes "\\z00" ++ two_digits (c / 0x10000)) ≡ true
@@ -156,21 +120,16 @@ seen_scalars : (c : ℕ) (hidden : Bool) → IsScalar c → all_scalars (if hidd
 seen_scalars c true s = number_scalars c s
 seen_scalars c false s = and_from (scalar c) true s refl
 
-pub visible_scalars : (first : Bool) (c : ℕ) (found : Option ℕ) → IsScalar c → find (means c) escape_marks ≡ found → all_scalars (by_mark found first c) ≡ true
+visible_scalars : (first : Bool) (c : ℕ) (found : Option ℕ) → IsScalar c → find (means c) escape_marks ≡ found → all_scalars (by_mark found first c) ≡ true
 visible_scalars first c None s e = seen_scalars c (is_hidden first c) s
 visible_scalars first c (Some mark) s e = and_from (scalar mark) true (find_means c escape_marks mark refl e).1 refl
-
-rest_scalars : (text : List ℕ) → all_scalars text ≡ true → all_scalars (flat_map (visible_character false) text) ≡ true
-rest_scalars [] s = refl
-rest_scalars (c ∷ text) s =
-    let both = and_parts (scalar c) (all_scalars text) s in
-    scalars-append (visible_character false c) (flat_map (visible_character false) text) (visible_scalars false c (find (means c) escape_marks) both.0 refl) (rest_scalars text both.1)
 
 pub text_scalars : (text : List ℕ) → all_scalars text ≡ true → all_scalars (visible_text text) ≡ true
 text_scalars [] s = refl
 text_scalars (c ∷ text) s =
     let both = and_parts (scalar c) (all_scalars text) s in
-    scalars-append (visible_character true c) (flat_map (visible_character false) text) (visible_scalars true c (find (means c) escape_marks) both.0 refl) (rest_scalars text both.1)
+    scalars-append (visible_character true c) (flat_map (visible_character false) text) (visible_scalars true c (find (means c) escape_marks) both.0 refl)
+    (flat_scalars (visible_character false) (λ c s. visible_scalars false c (find (means c) escape_marks) s refl) text both.1)
 
 -- the text that spells characters visibly is read back
 pub visibly_back : (text bytes : List ℕ) → all_scalars text ≡ true → bytes ≡ encode_utf8_all (visible_text text) → characters_of bytes ≡ Ok text

@@ -1,5 +1,5 @@
 -- A walk as a whole, from its root.
-use Rattle.std.proofs.Common.{◌≡◌, ℕ, List, [], ◌∷◌, ap, map, subst, sym, ◌∙◌, Option, None, Result, Ok, Err}
+use Rattle.std.proofs.Common.{◌≡◌, ℕ, List, [], ◌∷◌, ap, map, string_bytes, subst, sym, ◌∙◌, Option, None, Result, Ok, Err}
 use Rattle.brl_failure.specs.Failure.{◌>>=◌}
 use Rattle.brl_failure.specs.declared.failure.Failure.{Failure}
 use Rattle.brl_failure.specs.declared.failure.Failure.TheVariants.{Fault, Memory}
@@ -8,37 +8,46 @@ use Rattle.brl_lines.specs.Answer.{FileAnswer, FileAnswers}
 use Rattle.brl_lines.specs.Files.{Files, answers_of, loaded_view}
 use Rattle.brl_lines.specs.Gathered.{left_view}
 use Rattle.brl_lines.specs.Includes.{found, last_part}
-use Rattle.brl_lines.specs.Lines.{Refusal, Walk, WayView, answer_at, expanded, follow, lines_over, no_way, taken, text_of, walk_from, walk_over, with_file}
+use Rattle.brl_lines.specs.Lines.{Refusal, Walk, answer_at, expanded, follow, lines_over, no_way, taken, text_of, walk_from, walk_over, with_file}
 use Rattle.brl_lines.specs.Loaded.{LoadedView}
 use Rattle.brl_lines.specs.Outcome.{AreLinesOfFiles, IsReadFailure, IsRefusedAs}
 use Rattle.brl_lines.specs.Skipping.{AreLinesWithout}
-use Rattle.brl_lines.specs.Steps.{Fails, Stops, Walks}
+use Rattle.brl_lines.specs.Steps.{Fails, Stops, Walks, walk_in}
 use Rattle.brl_lines.specs.Tokens.{lines_in}
 use Rattle.brl_lines.specs.Views.{load_fault_view}
 use Rattle.brl_lines.specs.declared.expand.Expansion.{Expansion}
 use Rattle.brl_lines.specs.declared.fault.LoadFault.{LoadFault}
+use Rattle.brl_lines.specs.declared.open_file.OpenFile.{OpenFile}
 use Rattle.brl_lines.specs.declared.way.Policy.{Policy}
 use Rattle.brl_lines.specs.declared.way.Policy.TheVariants as policies
 use Rattle.brl_lines.proofs.FileLemmas.{paths-of-answers}
 
 module _ (policy : Policy) (folders : List (List ℕ)) (answer : List ℕ → Option FileAnswer) (root top : List ℕ) (top_is : found folders answer root root ≡ top) where
-  abbrev from_text : List ℕ → List (List ℕ) → WayView → List ℕ → Result Walk Refusal
-  from_text own chain way text = expanded (taken policy folders answer own 15 (follow policy folders answer own 15 chain) chain) (lines_in own text) (record { lines = []; way = way })
+  abbrev from_text : List ℕ → List (List ℕ) → Walk → List ℕ → Result Walk Refusal
+  from_text own chain start text = expanded (taken policy folders answer own 15 (follow policy folders answer own 15 chain) chain) (lines_in own text) start
 
-  from_top : walk_over policy folders answer root ≡ walk_from policy folders answer (last_part root) top
-  from_top = ap (walk_from policy folders answer (last_part root)) top_is
+  by_text : (r : Result (List ℕ) Refusal) → text_of top None (answer top) ≡ r
+      → walk_over policy folders answer root ≡ (r >>= from_text top (top ∷ []) (record { lines = []; way = with_file top (last_part root) no_way }))
+  by_text r e =
+      ap (walk_from policy folders answer (last_part root)) top_is
+      ∙ ap (λ (r : Result (List ℕ) Refusal). r >>= from_text top (top ∷ []) (record { lines = []; way = with_file top (last_part root) no_way })) e
 
   -- the root is refused
   pub root-refused : (e : Refusal) → text_of top None (answer top) ≡ Err e → walk_over policy folders answer root ≡ Err e
-  root-refused e h = from_top ∙ ap (λ (r : Result (List ℕ) Refusal). r >>= from_text top (top ∷ []) (with_file top (last_part root) no_way)) h
+  root-refused e h = by_text (Err e) h
 
   -- the root is good
-  pub root-lines : (text own : List ℕ) (others : List (List ℕ)) (way : WayView) → text_of top None (answer top) ≡ Ok text → own ≡ top → others ≡ [] → way ≡ with_file top (last_part root) no_way
-      → walk_over policy folders answer root ≡ from_text own (own ∷ others) way text
-  root-lines text own others way h own_is none way_is =
-      from_top
-      ∙ ap (λ (r : Result (List ℕ) Refusal). r >>= from_text top (top ∷ []) (with_file top (last_part root) no_way)) h
-      ∙ (λ j. from_text (sym own_is j) (sym own_is j ∷ sym none j) (sym way_is j) text)
+  pub root-lines : (text own : List ℕ) (file : OpenFile) (start : Walk) → text_of top None (answer top) ≡ Ok text → own ≡ top → string_bytes file.path ≡ top
+      → file.includers.items ≡ [] → file.depth_left ≡ 15
+      → start.lines ≡ [] → start.way ≡ with_file top (last_part root) no_way
+      → walk_over policy folders answer root ≡ walk_in policy folders own file text answer start
+  root-lines text own file start h own_is path_is none depth no_lines way_is =
+      by_text (Ok text) h ∙ (λ j. in_file (sym own_is j) (sym path_is j) (map string_bytes (sym none j)) (sym depth j)
+      (record { lines = sym no_lines j; way = sym way_is j }))
+    where
+      in_file : List ℕ → List ℕ → List (List ℕ) → ℕ → Walk → Result Walk Refusal
+      in_file own path others depth walk =
+          expanded (taken policy folders answer own depth (follow policy folders answer own depth (path ∷ others)) (path ∷ others)) (lines_in path text) walk
 
 -- why a walk ends
 pub walk-stops : (gives : FileAnswers) (policy : Policy) (files : Files) (root : List ℕ) (failure : Failure LoadFault) → Fails gives files (λ answer. walk_over policy gives.folders answer root) failure

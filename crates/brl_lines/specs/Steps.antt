@@ -1,23 +1,21 @@
 -- Internal. What the single steps of a load do, in the words of the definitions.
 use Rattle.std.specs.Global.{Global}
-use Rattle.std.specs.Prelude.{◌≡◌, ◌≢◌, Bool, not, ℕ, ◌+◌, ◌<◌, ◌≤◌, IfSome, List, [], ◌∷◌, ◌++◌, length, map, Option, None, Some, Result, Ok, Err, String, string_bytes}
-use Rattle.std.specs.List.{AllByRecursion, enumerate_from, flat_map}
-use Rattle.std.specs.Str.{IsCharBoundary}
+use Rattle.std.specs.Prelude.{◌≡◌, Bool, true, false, not, ℕ, ◌+◌, ◌<◌, ◌≤◌, IfSome, List, [], ◌∷◌, ◌++◌, length, map, Option, None, Some, Result, Ok, Err, String, string_bytes}
+use Rattle.std.specs.List.{AllByRecursion, enumerate_from, flat_map, list_any}
+use Rattle.std.specs.Str.{IsCharBoundary, bytes_eq}
 use Rattle.brl_failure.specs.Failure.{IfFault}
 use Rattle.brl_failure.specs.declared.failure.Failure.{Failure}
-use Rattle.brl_lines.specs.Answer.{FileAnswer, Holds, FileAnswers, is_missing, MayAnswer}
+use Rattle.brl_lines.specs.Answer.{FileAnswer, FileAnswers, MayAnswer, Missing, is_missing}
 use Rattle.brl_lines.specs.Files.{Files, answer_for, answers_of, chain_of, path_at, span_lines, text_at}
 use Rattle.brl_lines.specs.Gathered.{walk_view, walk_with, way_view}
-use Rattle.brl_lines.specs.Includes.{first_there, found, name_of, paths_in}
-use Rattle.brl_lines.specs.Lines.{Answers, LocationView, Refusal, Take, Walk, answer_at, entered, expanded, follow, gathered_at, loaded_at, taken, text_of, walk_over, with_file}
+use Rattle.brl_lines.specs.Includes.{first_there, name_of, paths_in}
+use Rattle.brl_lines.specs.Lines.{Answers, Follow, LocationView, Refusal, Take, Walk, WayView, answer_at, entered, expanded, follow, gathered_at, gathers, loaded_at, taken, text_of, walk_over, with_file}
 use Rattle.brl_lines.specs.Outcome.{AreGiven, IsReadFailure}
 use Rattle.brl_lines.specs.Rows.{piece, rows}
 use Rattle.brl_lines.specs.Tokens.{LineView, line_of, lines_in, token_of, tokens}
 use Rattle.brl_lines.specs.Views.{load_fault_view}
 use Rattle.brl_lines.specs.declared.checked_file.CheckedFile.{CheckedFile}
-use Rattle.brl_failure.specs.declared.failure.Failure.TheVariants.{Fault}
 use Rattle.brl_lines.specs.declared.expand.Expansion.{Expansion}
-use Rattle.brl_lines.specs.declared.fault.LoadFaultKind.TheVariants as kinds
 use Rattle.brl_lines.specs.declared.fault.LoadFault.{LoadFault}
 use Rattle.brl_lines.specs.declared.open_file.OpenFile.{OpenFile}
 use Rattle.brl_lines.specs.declared.row.FileRow.{FileRow}
@@ -96,32 +94,27 @@ pub record FailsAs {U : Type 0} (gives : FileAnswers) (files : Files) (want : (L
 abbrev pub Fails : {U : Type 0} → FileAnswers → Files → ((List ℕ → Option FileAnswer) → Result U Refusal) → Failure LoadFault → Type 0
 Fails gives files want failure = IfFault (λ fault. FailsAs gives files want (load_fault_view fault)) failure
 
--- the source gave an answer for the file at a path for which it is refused
-abbrev pub IsUnread : FileAnswers → List ℕ → Option LocationView → Failure LoadFault → Type 0
-IsUnread gives path place failure =
+-- the source gave the file at a path, which is checked, or none; or an answer for which it is
+-- refused
+abbrev pub Reads : FileAnswers → List ℕ → Option LocationView → Result (Option CheckedFile) (Failure LoadFault) → Type 0
+Reads gives path place (Ok file) = MayAnswer gives path (answer_for file)
+Reads gives path place (Err failure) =
     IfFault (λ fault. (answer : FileAnswer) × MayAnswer gives path answer × (text_of path place (Some answer) ≡ Err (load_fault_view fault)) × IsReadFailure gives (load_fault_view fault)) failure
 
--- the source gave the bytes of the file that is returned, or its path is refused
-abbrev pub Reads : FileAnswers → List ℕ → Option LocationView → Result CheckedFile (Failure LoadFault) → Type 0
-Reads gives path place (Ok file) = MayAnswer gives path (Holds (string_bytes file.whole))
-Reads gives path place (Err failure) = IsUnread gives path place failure
-
 -- the file with this index is the one at a path, and its text is good
-pub record Finds (gives : FileAnswers) (old new : Files) (path : List ℕ) (index : ℕ) : Type 0 where
-  pub grows : Grows gives old new
-  pub within : index < length new
-  pub path_is : path_at new index ≡ path
-  pub text_is : (answer : List ℕ → Option FileAnswer) → Extends new answer → (place : Option LocationView) → text_of path place (answer path) ≡ Ok (text_at new index)
+pub record Finds (files : Files) (path : List ℕ) (index : ℕ) : Type 0 where
+  pub within : index < length files
+  pub path_is : path_at files index ≡ path
+  pub text_is : (answer : List ℕ → Option FileAnswer) → Extends files answer → (place : Option LocationView) → text_of path place (answer path) ≡ Ok (text_at files index)
 
--- what is at a path was found out: a file, or none; or its file is refused
-abbrev pub FindsFile : FileAnswers → List ℕ → Option LocationView → Result (Option CheckedFile) (Failure LoadFault) → Type 0
-FindsFile gives path place (Ok file) = MayAnswer gives path (answer_for file)
-FindsFile gives path place (Err failure) = IsUnread gives path place failure
+-- the index of the file at a path, or none where it is known that there is no file
+abbrev pub IsIndexAt : Files → List ℕ → Option ℕ → Type 0
+IsIndexAt files path None = answer_at (answers_of files) path ≡ Some Missing
+IsIndexAt files path (Some index) = Finds files path index
 
--- that there is no file, where that is the fault; else the fault
-abbrev pub IsMissingOr : LoadFault → Result (Option CheckedFile) (Failure LoadFault) → Type 0
-IsMissingOr fault (Ok file) = (fault.kind ≡ kinds.NotFound) × (file ≡ None)
-IsMissingOr fault (Err failure) = (failure ≡ Fault fault) × (fault.kind ≢ kinds.NotFound)
+-- it is known what is at a path
+abbrev pub IsSeen : Files → List ℕ → Type 0
+IsSeen files path = (answer : FileAnswer) × (answer_at (answers_of files) path ≡ Some answer)
 
 -- it is known whether there is a file at a path
 pub record Sees (gives : FileAnswers) (old new : Files) (path : List ℕ) (there : Bool) : Type 0 where
@@ -130,16 +123,16 @@ pub record Sees (gives : FileAnswers) (old new : Files) (path : List ℕ) (there
   pub known : answer_at (answers_of new) path ≡ Some answer
   pub is : is_missing (Some answer) ≡ not there
 
--- the path at which a file is found, over any answers that have those of the files
-pub record Locates (gives : FileAnswers) (old new : Files) (usual name path : List ℕ) : Type 0 where
-  pub grows : Grows gives old new
-  pub found_is : (answer : List ℕ → Option FileAnswer) → Extends new answer → found gives.folders answer usual name ≡ path
-
 -- the first of some paths where there is a file, or else another, over any answers that have those
 -- of the files
 pub record FindsFirst (gives : FileAnswers) (old new : Files) (paths : List (List ℕ)) (other path : List ℕ) : Type 0 where
   pub grows : Grows gives old new
+  pub seen : IsSeen new path
   pub first_is : (answer : List ℕ → Option FileAnswer) → Extends new answer → first_there answer paths other ≡ path
+
+-- the path at which a file is found that has a name and a usual path
+abbrev pub Locates : FileAnswers → Files → Files → List ℕ → List ℕ → List ℕ → Type 0
+Locates gives old new usual name path = FindsFirst gives old new (usual ∷ paths_in gives.folders name) usual path
 
 -- the text of the file that is found at the first of some paths, or else at another
 abbrev pub text_of_first : List (List ℕ) → List ℕ → Option LocationView → (List ℕ → Option FileAnswer) → Result (List ℕ) Refusal
@@ -169,15 +162,21 @@ abbrev pub enter_in : Policy → List (List ℕ) → List ℕ → OpenFile → (
 enter_in policy folders root file answer =
     entered policy folders answer root file.depth_left (follow policy folders answer root file.depth_left (chain_of file)) (chain_of file)
 
--- the walk on from an include line of a file, whose own is found at a path, where all are loaded
-abbrev pub load_in : Policy → List (List ℕ) → List ℕ → OpenFile → List ℕ → (List ℕ → Option FileAnswer) → Take
-load_in policy folders root file path answer place name walk =
-    loaded_at (follow policy folders answer root file.depth_left (chain_of file)) answer (chain_of file) place name path walk
+-- the walk came to the file at a path before: at all, where files are gathered, and else on the way
+-- to the file that leads to it
+abbrev pub comes_again : Bool → WayView → List (List ℕ) → List ℕ → Bool
+comes_again true way chain path = list_any (bytes_eq path) way.paths
+comes_again false way chain path = list_any (bytes_eq path) chain
 
--- the walk on from such a line where files are gathered
-abbrev pub gather_in : Policy → List (List ℕ) → List ℕ → OpenFile → List ℕ → (List ℕ → Option FileAnswer) → Take
-gather_in policy folders root file path answer place name walk =
-    gathered_at (follow policy folders answer root file.depth_left (chain_of file)) answer place name path walk
+-- the walk on from an include line whose file is at a path, where files are gathered, or all loaded
+abbrev pub at_path : Bool → Follow → (List ℕ → Option FileAnswer) → List (List ℕ) → LocationView → List ℕ → List ℕ → Walk → Result Walk Refusal
+at_path true follow answer chain place name path walk = gathered_at follow answer place name path walk
+at_path false follow answer chain place name path walk = loaded_at follow answer chain place name path walk
+
+-- the walk on from an include line of a file, whose own is found at a path
+abbrev pub at_in : Policy → List (List ℕ) → List ℕ → OpenFile → List ℕ → (List ℕ → Option FileAnswer) → Take
+at_in policy folders root file path answer place name walk =
+    at_path (gathers policy) (follow policy folders answer root file.depth_left (chain_of file)) answer (chain_of file) place name path walk
 
 -- the walk on through the lines of a file with this text
 abbrev pub walk_in : Policy → List (List ℕ) → List ℕ → OpenFile → List ℕ → Wants

@@ -1,5 +1,5 @@
 //! A file that was read and found good.
-ghost use Rattle.std.specs.Prelude.{◌≡◌, ◌≤◌, false, IfErr, IfOk, length, option_map, string_bytes};
+ghost use Rattle.std.specs.Prelude.{◌≡◌, ◌≢◌, ◌≤◌, false, IfErr, IfOk, length, option_map, string_bytes};
 ghost use Rattle.std.specs.Str.{IsCharBoundary};
 ghost use Rattle.brl_failure.specs.Failure.{GivesAs, IfFault};
 ghost use Rattle.brl_lines.specs.Answer.{most_file_bytes};
@@ -81,6 +81,7 @@ pub(crate) fn checked(
 ) -> Result<CheckedFile, Failure<LoadFault>>
     ensures text { GivesAs (λ file. text_after_mark bytes.items) load_fault_view (text_in path.now (option_map location_ref_view place.entry) bytes.items) result }
     ensures read { IfErr result (IfFault (λ fault. is_read_failed fault.kind ≡ false)) }
+    ensures there { IfErr result (IfFault (λ fault. fault.kind ≢ LoadFaultKind.NotFound)) }
     ensures file { IfOk result (λ file. string_bytes file.whole ≡ bytes.items) }
 {
     if bytes.len() > MOST_FILE_BYTES {

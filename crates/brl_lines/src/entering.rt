@@ -1,21 +1,22 @@
 //! The file that an include line leads to.
-ghost use Rattle.std.specs.Prelude.{◌≡◌, Some, if◌then◌else◌, IfErr, IfOk, List, ℕ, option_map, string_bytes};
+ghost use Rattle.std.specs.Prelude.{◌≡◌, None, Some, false, true, if◌then◌else◌, IfErr, IfOk, List, ℕ, option_map, string_bytes};
 ghost use Rattle.std.specs.List.{list_any};
 ghost use Rattle.std.specs.Str.{bytes_eq};
 ghost use Rattle.brl_failure.specs.Failure.{IfFault};
 ghost use Rattle.brl_lines.specs.Files.{answers_of, chain_of};
-ghost use Rattle.brl_lines.specs.Lines.{refusal as refusal_of};
-ghost use Rattle.brl_lines.specs.Outcome.{AreGiven, CountsFailure};
-ghost use Rattle.brl_lines.specs.Steps.{FailsFrom, Opens, Takes, enter_in, gather_in, load_in, take_in};
+ghost use Rattle.brl_lines.specs.Answer.{FileAnswers};
+ghost use Rattle.brl_lines.specs.Gathered.{way_view};
+ghost use Rattle.brl_lines.specs.Lines.{gathers as gathers_by, refusal as refusal_of, with_left};
+ghost use Rattle.brl_lines.specs.Outcome.{AreGiven, CountsFailure, is_read_failed};
+ghost use Rattle.brl_lines.specs.Steps.{FailsFrom, IsSeen, Opens, Takes, at_in, comes_again as comes_again_by, enter_in, take_in};
 ghost use Rattle.brl_lines.specs.Views.{load_fault_view, location_ref_view};
-ghost use Rattle.brl_lines.specs.declared.way.Policy.{Policy as PolicyValue};
 
 use crate::expand::Expansion;
 use crate::fault::{LoadFault, LoadFaultKind, LocationRef, refusal};
 use crate::finding::locate;
 use crate::include::{IncludeLine, included};
 use crate::open_file::OpenFile;
-use crate::read::{file_at, look_at};
+use crate::read::index_at;
 use crate::source::Source;
 use crate::way::{IncludeReason, IncludeRef, Policy, Way};
 use brl_failure::Failure;
@@ -68,21 +69,17 @@ fn look_for<S: Source>(
     ensures same { S.gives source.new ≡ S.gives source.old }
 {
     let usual = included(alloc, root, include.name)?;
+    let usual = usual.as_str();
     let place = Some(include.place);
     if table.way.is_full() {
         let kind = LoadFaultKind::TooManyIncludes;
-        return Err(refusal(alloc, kind, usual.as_str(), place));
+        return Err(refusal(alloc, kind, usual, place));
     }
-    let gathers = policy.gathers();
-    if file.depth_left == 0 && !gathers {
-        return Err(too_deep(alloc, file, usual.as_str(), place));
+    if file.depth_left == 0 && !policy.gathers() {
+        return Err(too_deep(alloc, file, usual, place));
     }
     let path = locate(alloc, source, &mut table.files, usual, include.name, place)?;
-    if gathers {
-        gather_at(alloc, source, table, file, include, path)
-    } else {
-        load_at(alloc, source, table, file, include, path)
-    }
+    open_at(alloc, table, policy, file, include, path)
 }
 
 /// Why the file at a path, to which a file leads, is refused where it would be too deep: it leads
@@ -103,62 +100,66 @@ fn too_deep(
     refusal(alloc, kind, path, place)
 }
 
-/// The file at a path to which an include line leads, where all files are loaded.
-fn load_at<S: Source>(
+/// The file at a path to which an include line leads, if it is followed. Where there is none, or
+/// the walk came to it before, the line is refused or left out.
+fn open_at(
     alloc: Global,
-    source: &mut S,
     table: &mut Expansion,
+    policy: Policy,
     file: &OpenFile,
     include: IncludeRef<'_>,
     path: String,
 ) -> Result<Option<OpenFile>, Failure<LoadFault>>
-    requires { AreGiven (S.gives source.old) (answers_of table.old.files.entries) }
-    ensures ok { (policy : PolicyValue) (root : List ℕ) → IfOk result (Takes (S.gives source.old) policy root file.now table.old table.new
-        (λ answer. load_in policy (S.gives source.old).folders root file.now (string_bytes path) answer (location_ref_view include.entry.place) include.entry.name.now)) }
-    ensures err { (policy : PolicyValue) (root : List ℕ) → IfErr result (FailsFrom (S.gives source.old) table.old
-        (λ answer. load_in policy (S.gives source.old).folders root file.now (string_bytes path) answer (location_ref_view include.entry.place) include.entry.name.now)) }
-    ensures count { CountsFailure (S.faults source.old) (S.faults source.new) result }
-    ensures same { S.gives source.new ≡ S.gives source.old }
+    requires { IsSeen table.old.files.entries (string_bytes path) }
+    ensures ok { (gives : FileAnswers) (root : List ℕ) → AreGiven gives (answers_of table.old.files.entries) → IfOk result (Takes gives policy root file.now table.old table.new
+        (λ answer. at_in policy gives.folders root file.now (string_bytes path) answer (location_ref_view include.entry.place) include.entry.name.now)) }
+    ensures err { (gives : FileAnswers) (root : List ℕ) → AreGiven gives (answers_of table.old.files.entries) → IfErr result (FailsFrom gives table.old
+        (λ answer. at_in policy gives.folders root file.now (string_bytes path) answer (location_ref_view include.entry.place) include.entry.name.now)) }
+    ensures read { IfErr result (IfFault (λ fault. is_read_failed fault.kind ≡ false)) }
 {
-    let place = Some(include.place);
-    let index = file_at(alloc, source, &mut table.files, path.as_str(), place)?;
-    if file.is_led_to_by(path.as_str()) {
-        return Err(refusal(alloc, LoadFaultKind::Cycle, path.as_str(), place));
+    let at = path.as_str();
+    let Some(index) = index_at(&table.files, at) else {
+        let (reason, kind) = (IncludeReason::Missing, LoadFaultKind::NotFound);
+        return stop(alloc, &mut table.way, policy, include, at, reason, kind);
+    };
+    if comes_again(&table.way, policy, file, at) {
+        let (reason, kind) = (IncludeReason::Repeated, LoadFaultKind::Cycle);
+        return stop(alloc, &mut table.way, policy, include, at, reason, kind);
     }
     let inner = open(alloc, &mut table.way, file, include, path, index)?;
     Ok(Some(inner))
 }
 
-/// The file at a path to which an include line leads, where files are gathered: none where it isn't
-/// there, or the walk came through it before. The include line is left out then.
-fn gather_at<S: Source>(
-    alloc: Global,
-    source: &mut S,
-    table: &mut Expansion,
-    file: &OpenFile,
-    include: IncludeRef<'_>,
-    path: String,
-) -> Result<Option<OpenFile>, Failure<LoadFault>>
-    requires { AreGiven (S.gives source.old) (answers_of table.old.files.entries) }
-    ensures ok { (policy : PolicyValue) (root : List ℕ) → IfOk result (Takes (S.gives source.old) policy root file.now table.old table.new
-        (λ answer. gather_in policy (S.gives source.old).folders root file.now (string_bytes path) answer (location_ref_view include.entry.place) include.entry.name.now)) }
-    ensures err { (policy : PolicyValue) (root : List ℕ) → IfErr result (FailsFrom (S.gives source.old) table.old
-        (λ answer. gather_in policy (S.gives source.old).folders root file.now (string_bytes path) answer (location_ref_view include.entry.place) include.entry.name.now)) }
-    ensures count { CountsFailure (S.faults source.old) (S.faults source.new) result }
-    ensures same { S.gives source.new ≡ S.gives source.old }
+/// Whether a walk came to the file at a path before: at all, where files are gathered, and else on
+/// the way to the file that leads to it.
+fn comes_again(way: &Way, policy: Policy, file: &OpenFile, path: &str) -> bool
+    ensures { result ≡ comes_again_by (gathers_by policy) (way_view way.now) (chain_of file.now) path.now }
 {
-    let place = Some(include.place);
-    if !look_at(alloc, source, &mut table.files, path.as_str(), place)? {
-        table.way.leave(alloc, include, IncludeReason::Missing)?;
+    if policy.gathers() {
+        way.has(path)
+    } else {
+        file.is_led_to_by(path)
+    }
+}
+
+/// Follows no include line: it is left out for a reason where files are gathered, and else refused.
+fn stop(
+    alloc: Global,
+    way: &mut Way,
+    policy: Policy,
+    include: IncludeRef<'_>,
+    path: &str,
+    reason: IncludeReason,
+    kind: LoadFaultKind,
+) -> Result<Option<OpenFile>, Failure<LoadFault>>
+    ensures ok { IfOk result (λ inner. (inner ≡ None) × (gathers_by policy ≡ true) × (way_view way.new ≡ with_left (location_ref_view include.entry.place) include.entry.name.now reason (way_view way.old))) }
+    ensures err { IfErr result (IfFault (λ fault. (gathers_by policy ≡ false) × (refusal_of kind path.now (Some (location_ref_view include.entry.place)) ≡ load_fault_view fault))) }
+{
+    if policy.gathers() {
+        way.leave(alloc, include, reason)?;
         return Ok(None);
     }
-    let index = file_at(alloc, source, &mut table.files, path.as_str(), place)?;
-    if table.way.has(path.as_str()) {
-        table.way.leave(alloc, include, IncludeReason::Repeated)?;
-        return Ok(None);
-    }
-    let inner = open(alloc, &mut table.way, file, include, path, index)?;
-    Ok(Some(inner))
+    Err(refusal(alloc, kind, path, Some(include.place)))
 }
 
 /// Goes on to the file with an index, which was found at a path.

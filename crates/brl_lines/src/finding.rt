@@ -1,5 +1,5 @@
 //! Where a file is found: at its usual path, or by its name in one of the folders of the source.
-ghost use Rattle.std.specs.Prelude.{◌≡◌, ◌≢◌, ◌∷◌, IfErr, IfOk, map, option_map, string_bytes};
+ghost use Rattle.std.specs.Prelude.{◌≡◌, ◌≢◌, [], ◌∷◌, IfErr, IfOk, map, option_map, string_bytes, take};
 ghost use Rattle.brl_failure.specs.Failure.{IfFault};
 ghost use Rattle.brl_lines.specs.Files.{answers_of};
 ghost use Rattle.brl_lines.specs.Includes.{paths_in as paths_of_name};
@@ -35,7 +35,7 @@ fn paths_to_try(
     Ok(paths)
 }
 
-/// The first of some paths where there is a file; another one where there is none at any of them.
+/// The first of some paths where there is a file; the first of them where there is none at any.
 fn first_there<S: Source>(
     alloc: Global,
     source: &mut S,
@@ -44,7 +44,8 @@ fn first_there<S: Source>(
     other: &str,
     place: Option<LocationRef<'_>>,
 ) -> Result<String, Failure<LoadFault>>
-    requires { AreGiven (S.gives source.old) (answers_of files.old.entries) }
+    requires given { AreGiven (S.gives source.old) (answers_of files.old.entries) }
+    requires first { take 1 (map string_bytes paths.now) ≡ other.now ∷ [] }
     ensures ok { IfOk result (λ path. FindsFirst (S.gives source.old) files.old.entries files.new.entries (map string_bytes paths.now) other.now (string_bytes path)) }
     ensures err { IfErr result (Fails (S.gives source.old) files.old.entries (text_of_first (map string_bytes paths.now) other.now (option_map location_ref_view place.entry))) }
     ensures there { IfErr result (IfFault (λ fault. fault.kind ≢ LoadFaultKind.NotFound)) }
@@ -59,34 +60,23 @@ fn first_there<S: Source>(
     Ok(String::from_str(alloc, other)?)
 }
 
-/// The path at which a file is found that has a name and a usual path. Nothing is read where the
-/// source has no folders; else the paths are read where a file may be, up to the first that has
-/// one.
+/// The path at which a file is found that has a name and a usual path. The paths are read where
+/// it may be, up to the first that has a file.
 pub(crate) fn locate<S: Source>(
     alloc: Global,
     source: &mut S,
     files: &mut ReadFiles,
-    usual: String,
+    usual: &str,
     name: &str,
     place: Option<LocationRef<'_>>,
 ) -> Result<String, Failure<LoadFault>>
     requires { AreGiven (S.gives source.old) (answers_of files.old.entries) }
-    ensures ok { IfOk result (λ path. Locates (S.gives source.old) files.old.entries files.new.entries (string_bytes usual) name.now (string_bytes path)) }
-    ensures err { IfErr result (Fails (S.gives source.old) files.old.entries (text_of_found (S.gives source.old).folders (string_bytes usual) name.now (option_map location_ref_view place.entry))) }
+    ensures ok { IfOk result (λ path. Locates (S.gives source.old) files.old.entries files.new.entries usual.now name.now (string_bytes path)) }
+    ensures err { IfErr result (Fails (S.gives source.old) files.old.entries (text_of_found (S.gives source.old).folders usual.now name.now (option_map location_ref_view place.entry))) }
     ensures there { IfErr result (IfFault (λ fault. fault.kind ≢ LoadFaultKind.NotFound)) }
     ensures count { CountsFailure (S.faults source.old) (S.faults source.new) result }
     ensures same { S.gives source.new ≡ S.gives source.old }
 {
-    if source.folders().is_empty() {
-        return Ok(usual);
-    }
-    let paths = paths_to_try(alloc, source.folders(), usual.as_str(), name)?;
-    first_there(
-        alloc,
-        source,
-        files,
-        paths.as_slice(),
-        usual.as_str(),
-        place,
-    )
+    let paths = paths_to_try(alloc, source.folders(), usual, name)?;
+    first_there(alloc, source, files, paths.as_slice(), usual, place)
 }

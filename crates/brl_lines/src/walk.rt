@@ -5,11 +5,11 @@ ghost use Rattle.brl_lines.specs.Outcome.{CountsFailure};
 ghost use Rattle.brl_lines.specs.Steps.{Stops, Walks};
 
 use crate::expand::{Expansion, expand};
-use crate::fault::LoadFault;
+use crate::fault::{LoadFault, LoadFaultKind, refusal};
 use crate::finding::locate;
 use crate::include::last_part;
 use crate::open_file::OpenFile;
-use crate::read::file_at;
+use crate::read::index_at;
 use crate::source::Source;
 use crate::way::{Policy, Way};
 use brl_failure::Failure;
@@ -36,10 +36,12 @@ pub(crate) fn walk<S: Source>(
         spans: Vec::new(alloc),
         way: Way::new(alloc),
     };
-    let usual = String::from_str(alloc, root)?;
-    let path = locate(alloc, source, &mut table.files, usual, root, None)?;
-    let index = file_at(alloc, source, &mut table.files, path.as_str(), None)?;
-    table.way.add_file(alloc, path.as_str(), last_part(root))?;
+    let path = locate(alloc, source, &mut table.files, root, root, None)?;
+    let at = path.as_str();
+    let Some(index) = index_at(&table.files, at) else {
+        return Err(refusal(alloc, LoadFaultKind::NotFound, at, None));
+    };
+    table.way.add_file(alloc, at, last_part(root))?;
     let file = OpenFile {
         index,
         path,

@@ -5,5 +5,6 @@ pub mod Smallest
 pub mod TableSearch
 pub mod RuleClashes
 mod WholeList
+mod KnownClashes
 pub mod Used
 pub mod FoundFor

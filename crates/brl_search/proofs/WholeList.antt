@@ -67,7 +67,7 @@ rules_total = then_total (on_total (λ (p : ℕ × ℕ). p.0) nat_cmp_total) (on
 -- ---- Where traces diverge
 
 -- two lists diverge at one place
-one_place : (R : Traced → Traced → Type 0) (xs ys : List Traced) (i j : ℕ) (x y u v : Traced) → AllZip R (take i xs) (take i ys) → slice_get xs i ≡ Some x → slice_get ys i ≡ Some y → (R x y → ⊥)
+pub one_place : (R : Traced → Traced → Type 0) (xs ys : List Traced) (i j : ℕ) (x y u v : Traced) → AllZip R (take i xs) (take i ys) → slice_get xs i ≡ Some x → slice_get ys i ≡ Some y → (R x y → ⊥)
     → AllZip R (take j xs) (take j ys) → slice_get xs j ≡ Some u → slice_get ys j ≡ Some v → (R u v → ⊥) → (x ≡ u) × (y ≡ v)
 one_place R [] ys i j x y u v before x_at y_at differ same u_at v_at differs = absurd cc
 one_place R (a ∷ xs) [] i j x y u v before x_at y_at differ same u_at v_at differs = absurd cc
@@ -84,7 +84,7 @@ one_place R (a ∷ xs) (b ∷ ys) (suc i) (suc j) x y u v before x_at y_at diffe
     one_place R xs ys i j x y u v before.1 x_at y_at differ same.1 u_at v_at differs
 
 -- where two rules are those of one pair and are listed, the pair is listed
-pair_listed : (rules : List (ℕ × ℕ)) (r s a b : ℕ) → IsTrue (has_rules ((r, s) ∷ []) a b) → IsTrue (has_rules rules a b) → IsTrue (has_rules rules r s)
+pub pair_listed : (rules : List (ℕ × ℕ)) (r s a b : ℕ) → IsTrue (has_rules ((r, s) ∷ []) a b) → IsTrue (has_rules rules a b) → IsTrue (has_rules rules r s)
 pair_listed rules r s a b one there = elim (or_cases (are_rules a b (r, s)) false one) [
   | inl is ↦ elim (same_rules a b (r, s) is) [
     | inl e ↦ subst₂ (λ (u v : ℕ). IsTrue (has_rules rules u v)) (sym e.0) (sym e.1) there

@@ -4,7 +4,8 @@
 //!   `Scope` asks for: the characters that the texts don't use, the pairs of rules that are
 //!   excused, and who hears how far the search is.
 //! - `clashes` lists every pair of rules at which clashing texts diverge, each with a clash, or as
-//!   many as the limit lets it find.
+//!   many as the limit lets it find. What is known, as the clashes of fewer characters, isn't
+//!   searched again.
 //! - `small_clash_of` leaves characters out of two `Texts` while they clash, and where a pair of
 //!   rules is given, while `clash_at` says that their traces diverge at it.
 //! - `unused_rules` lists the rules of a table that no text uses.

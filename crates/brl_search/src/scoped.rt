@@ -71,7 +71,8 @@ fn search_excusing<P: Progress>(
         excused,
         progress,
     } = scope;
-    match clashes(alloc, table, limit, left_out, &mut *progress)? {
+    let known = Vec::new(alloc);
+    match clashes(alloc, table, limit, left_out, known, &mut *progress)? {
         ClashList::Complete { list, body } => {
             accepted_list_law();
             match first_beside(excused, list) {

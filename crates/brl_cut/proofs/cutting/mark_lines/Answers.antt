@@ -1,16 +1,10 @@
-use Rattle.std.proofs.Common.{◌∙◌, ap, map, subst}
 use Rattle.std.proofs.lemmas.Result.{err_from_is_err_and}
-use Rattle.brl_cut.specs.Cuts.{IsRead, written_root}
-use Rattle.brl_cut.specs.Edits.{Texts}
-use Rattle.brl_cut.specs.Files.{file_view}
-use Rattle.brl_cut.proofs.CutLemmas.{unwritten-moved}
 use Rattle.brl_cut.proofs.cutting.mark_lines.Goals as goal
 
 pub returns-clause-read : goal.returns-clause-read
-returns-clause-read c =
-    subst (λ (files : Texts). IsRead files (written_root c.args.dir.now c.args.root.now)) (ap (map file_view) c.as_slice.ensures.value ∙ c.in_ok-files.ensures) c.in_ok-check_marked.ensures.read
+returns-clause-read c = rw (c.as_slice.ensures.value, c.in_ok-files.ensures) at c.in_ok-check_marked.ensures.read
 
 pub returns-in_err-check_marked-clause-fault : goal.returns-in_err-check_marked-clause-fault
 returns-in_err-check_marked-clause-fault c =
     let p = err_from_is_err_and c.from_residual-in_err-check_marked.result c.from_residual-in_err-check_marked.ensures.1 in
-    rw (p.1, p.2) (unwritten-moved c.args.root.now c.args.dir.now (ap (map file_view) c.as_slice.ensures.value ∙ c.in_ok-files.ensures) _ c.in_err-check_marked.ensures.fault)
+    rw (p.1, p.2) (rw (c.as_slice.ensures.value, c.in_ok-files.ensures) at c.in_err-check_marked.ensures.fault)

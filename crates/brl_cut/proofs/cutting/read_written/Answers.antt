@@ -2,7 +2,6 @@ use Rattle.std.proofs.Common.{◌∙◌, List, ℕ, map, subst, sym}
 use Rattle.brl_failure.specs.Raised.{if_err-raised, if_ok-raised}
 use Rattle.brl_cut.specs.Cuts.{IsReadAs, IsUnreadAs, IsUnwritten, written_root}
 use Rattle.brl_cut.specs.Files.{file_view}
-use Rattle.brl_cut.proofs.CutLemmas.{unwritten-as}
 use Rattle.brl_cut.proofs.cutting.read_written.Goals as goal
 
 pub returns-clause-table : goal.returns-clause-table
@@ -17,4 +16,4 @@ returns-clause-fault c =
     let files = map file_view c.args.files.now in
     let named = c.as_str.ensures.value ∙ c.in_ok-written.ensures in
     if_err-raised _ (IsUnreadAs files c.as_str.result.now) (IsUnwritten files c.args.root.now c.args.dir.now) c.read_back.result c.raise.result c.raise.ensures c.read_back.ensures.fault
-    (λ one other same h. subst (IsUnwritten files c.args.root.now c.args.dir.now) (sym same) (unwritten-as files c.args.root.now c.args.dir.now _ one named h))
+    (λ one other same h. subst (IsUnwritten files c.args.root.now c.args.dir.now) (sym same) (subst (λ (r : List ℕ). IsUnreadAs files r one) named h))

@@ -1,6 +1,6 @@
 use Rattle.std.proofs.Common.{false, rules}
 use Rattle.std.proofs.lemmas.Fmt.{hex_byte}
-use Rattle.brl_lines.proofs.VisibleLemmas.{two_digits_ascii}
+use Rattle.brl_lines.proofs.SpellingLemmas.{two_digits_ascii}
 use Rattle.brl_lines.proofs.visible.push_digits.Goals as goal
 
 pub returns : goal.returns

@@ -13,11 +13,11 @@ use Rattle.brl_traces.specs.Traces.{ClashesDivergeAtWithout}
 use Rattle.brl_search.proofs.RuleClashes.{as_many_rules, over_limit}
 use Rattle.brl_search.proofs.table_clashes.clashes_of.Goals as goal
 
-pub rule_clashes-requires : goal.rule_clashes-requires
-rule_clashes-requires c = (rw c.in-Complete.is at c.requires.1).0
+pub rule_clashes-requires-clause-list : goal.rule_clashes-requires-clause-list
+rule_clashes-requires-clause-list c = (rw c.in-Complete.is at c.requires.divergences.1).0
 
-pub rule_clashes-requires-in-Partial : goal.rule_clashes-requires-in-Partial
-rule_clashes-requires-in-Partial c = (rw c.in-Partial.is at c.requires.1).0
+pub rule_clashes-requires-in-Partial-clause-list : goal.rule_clashes-requires-in-Partial-clause-list
+rule_clashes-requires-in-Partial-clause-list c = (rw c.in-Partial.is at c.requires.divergences.1).0
 
 pub returns-in_ok-list-in-Complete : goal.returns-in_ok-list-in-Complete
 returns-in_ok-list-in-Complete c limit divergences =

@@ -8,6 +8,7 @@ use Rattle.brl_search.proofs.table_clashes.rule_clashes.Given as goal
 
 abbrev pub invariant-loop-rules : goal.invariant-loop-rules
 invariant-loop-rules l = record {
+  known : All (IsRuleClash l.left_out l.table) l.known.items;
   each : All (IsRuleClash l.left_out l.table) l.clashes.items;
   rest : AreDivergences (without l.left_out (dues_machine l.table)) l.rest;
   rules : rules_of_clashes l.clashes.items ++ rules_of l.rest ≡ rules_of l.fn.list;

@@ -20,6 +20,7 @@ use brl_table::Table;
 use brl_testing::{one_file, table_of};
 use brl_without::{LeftOut, Scope};
 use std::alloc::{AllocError, Global};
+use std::collections::BTreeMap;
 use std::test::Fail;
 
 /// The certificate of a table of the letters `a` and `b`.
@@ -121,11 +122,20 @@ fn is_rule_clash(clash: &RuleClash, lesser: u32, greater: u32) -> bool {
         && clash_of.right().len() == 1
 }
 
+/// Whether the copy of the pair of the first two rules is one.
+fn is_copied(alloc: Global, table: &Table, clash: &RuleClash) -> bool {
+    let copy: Result<RuleClash, AllocError> = clash.copy(alloc, table);
+    match &copy {
+        Ok(copy) => is_rule_clash(copy, 0, 1),
+        Err(_) => false,
+    }
+}
+
 /// Whether a list of clashes of two letters has their pair alone.
-fn has_both(found: &ClashList) -> bool {
+fn has_both(alloc: Global, table: &Table, found: &ClashList) -> bool {
     match found {
         ClashList::Complete { list, body } => {
-            list.len() == 1 && is_rule_clash(&list[0], 0, 1) && body.state_count() == 2
+            list.len() == 1 && is_copied(alloc, table, &list[0]) && body.state_count() == 2
         }
         ClashList::Partial { .. } => false,
     }
@@ -139,10 +149,11 @@ fn lists_both_without(alloc: Global, table: &Table, left_out: &LeftOut) -> bool 
         table,
         1000,
         left_out,
+        Vec::new(alloc),
         &mut NoProgress,
     );
     match &found {
-        Ok(found) => has_both(found),
+        Ok(found) => has_both(alloc, table, found),
         Err(_) => false,
     }
 }
@@ -163,6 +174,7 @@ fn machine_lists_both(alloc: Global, table: &Table) -> Result<bool, Fail> {
         &dues,
         1000,
         seed,
+        BTreeMap::new(alloc),
         &mut NoProgress,
     );
     match &found {

@@ -7,9 +7,10 @@ use brl_progress::{NoProgress, Slice};
 use brl_rules::Table;
 use brl_search::{ClashList, RuleClash, clashes, seed_of};
 use brl_states::DuesState;
-use brl_testing::{chars, for_tables_of_4, run_slices};
+use brl_testing::{chars, for_tables_of_3, for_tables_of_4, run_slices};
 use brl_without::LeftOut;
 use std::alloc::{AllocError, Global};
+use std::collections::BTreeMap;
 use std::test::Fail;
 
 /// A table's lines, the characters that are left out, the limit, and what is listed: each pair of
@@ -100,7 +101,16 @@ fn clashes_without(
     left_out: &LeftOut,
     limit: u32,
 ) -> Result<ClashList, AllocError> {
-    clashes(alloc, table, limit as u64, left_out, &mut NoProgress)
+    let known = Vec::new(alloc);
+    clashes(alloc, table, limit as u64, left_out, known, &mut NoProgress)
+}
+
+/// The pairs of a whole list.
+pub fn pairs_of(found: ClashList) -> Result<Vec<RuleClash>, Fail> {
+    match found {
+        ClashList::Complete { list, .. } => Ok(list),
+        ClashList::Partial { .. } => Err(Fail::new(format_args!("no whole list"))),
+    }
 }
 
 /// The list of a table's clashes.
@@ -125,6 +135,32 @@ fn told_of(alloc: Global, table: &Table, left_out: &str, limit: &str) -> Result<
     let limit = u32::from_str_radix(limit, 10)?;
     let left_out = LeftOut::new(alloc, chars(alloc, left_out)?)?;
     told_without(alloc, table, &left_out, limit)
+}
+
+/// A table's lines, some characters, and what is listed of all texts where the clashes of those
+/// without these characters are known: what is listed where none are.
+const KNOWN: &str = "\
+letter a 1; letter b 1; letter c 1||complete; 0+1 a b; 0+2 a c; 1+2 b c
+letter a 1; letter b 1; letter c 1|a|complete; 0+1 a b; 0+2 a c; 1+2 b c
+letter a 1; letter b 1; letter c 1|b|complete; 0+1 a b; 0+2 a c; 1+2 b c
+letter a 1; letter b 1; letter c 1|ab|complete; 0+1 a b; 0+2 a c; 1+2 b c
+letter a 1; letter b 12; letter c 14; always ab 14|a|complete; 0+3 ab c
+uplow Aa 1; letter b 2; always ab 12|b|complete; 0+0 Ab ab; 1+2 A a
+uplow Aa 1; uplow Bb 12; capsletter 6; begcapsword 6|B|complete; 0+0 AA Aa; 0+1 AAA AAa; 2+2 BA Ba; 2+3 AAB AAb
+";
+
+/// What is listed of a table where the clashes of the texts without some characters are known.
+fn told_of_known(alloc: Global, table: &Table, left_out: &str) -> Result<String, Fail> {
+    let left_out = LeftOut::new(alloc, chars(alloc, left_out)?)?;
+    let known = pairs_of(clashes_without(alloc, table, &left_out, 99)?)?;
+    let none = LeftOut::none(alloc);
+    let found = clashes(alloc, table, 99, &none, known, &mut NoProgress)?;
+    told_of_clashes(alloc, table, &found)
+}
+
+#[test]
+fn known_clashes_are_listed(rt: HostRuntime) -> Result<(), Fail> {
+    for_tables_of_3(rt.alloc(), KNOWN, told_of_known)
 }
 
 #[test]
@@ -178,7 +214,7 @@ fn told_after(
     seed: Seed,
     slices: [u64; 2],
 ) -> Result<String, AllocError> {
-    let start = Listing::start(alloc, dues, 9, seed)?;
+    let start = Listing::start(alloc, dues, 9, seed, BTreeMap::new(alloc))?;
     let slice = run_slices(start, slices)?;
     told_of_slice(alloc, &slice)
 }

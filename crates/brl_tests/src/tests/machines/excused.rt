@@ -1,6 +1,6 @@
 //! Certificates that are judged but for what is excused.
 use crate::tests::machines::accept::{answer_text, judge_scoped};
-use crate::tests::machines::clashes::clashes_of;
+use crate::tests::machines::clashes::{clashes_of, pairs_of};
 use brl_cert::{Cert, write_cert};
 use brl_forward::{Traced, trace, translate};
 use brl_lines::MapSource;
@@ -207,14 +207,6 @@ fn needed_of(alloc: Global, table: &[u8], cert: &[u8], list: &[RuleClash]) -> Re
     }
     let needed = count_needed(alloc, table, cert, list)?;
     Ok(format!(in alloc; "{needed} of {}", list.len())?)
-}
-
-/// The pairs of a whole list.
-fn pairs_of(found: ClashList) -> Result<Vec<RuleClash>, Fail> {
-    match found {
-        ClashList::Complete { list, .. } => Ok(list),
-        ClashList::Partial { .. } => Err(Fail::new(format_args!("no whole list"))),
-    }
 }
 
 /// The sets of a whole list, as a certificate.
