@@ -31,7 +31,6 @@ pub mod Members
 pub mod Listed
 pub mod InClosed
 pub mod MoreExcused
-pub mod Numbering
-pub mod Listing
-pub mod Fresh
+pub mod InLists
+pub mod Renumbered
 pub mod KnownLists

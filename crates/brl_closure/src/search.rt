@@ -12,7 +12,6 @@
 mod edges;
 mod explore;
 mod finder;
-mod fresh;
 mod known_steps;
 mod laws;
 mod outcome;

@@ -14,6 +14,7 @@
 #![tactic(auto)]
 
 mod above;
+mod asking;
 mod carry;
 mod cased;
 mod context_laws;
@@ -22,11 +23,9 @@ mod laws;
 mod letter;
 mod machine;
 mod origin;
-mod parts;
 mod rules_above;
 mod runs;
 mod sharing;
-mod starts;
 mod step;
 mod steps;
 mod walk;
@@ -35,4 +34,3 @@ pub use brl_states::{Due, DueList, DuesState};
 pub use context_laws::contexts_law;
 pub use laws::{dues_law, exact_law, finite_law, gathered_law, step_law};
 pub use machine::Dues;
-pub use parts::DuesPart;

@@ -13,11 +13,9 @@ pub mod Sets
 pub mod Edges
 pub mod NumberPairs
 pub mod Sorted
-pub mod Ranks
-pub mod Grouped
+pub mod Places
 pub mod Splits
 pub mod Shared
-pub mod Parted
 pub mod Order
 pub mod Based
 pub mod Listed
