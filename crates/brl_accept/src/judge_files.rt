@@ -23,7 +23,7 @@ use brl_closure::{Accepted, accept_up_to};
 use brl_dues::Dues;
 use brl_failure::{Failure, raise};
 use brl_lines::Source;
-use brl_pairs::{Body, Excused, Based, numbered_sets_law};
+use brl_pairs::{Body, Excused, Parted, numbered_sets_law};
 use brl_progress::{NoProgress, Progress};
 use brl_rules::Table;
 use brl_states::WindowState;
@@ -34,7 +34,7 @@ use brl_without::{LeftOut, Scope, Without, check_defined, unambiguous_without_la
 use std::alloc::Global;
 
 /// Judges the states and pairs of a certificate for a machine.
-fn judge_body<M: Based, W: Progress>(
+fn judge_body<M: Parted, W: Progress>(
     alloc: Global,
     machine: &M,
     body: &Body<M::State>,

@@ -154,7 +154,7 @@ fn read_state(
     let Some(dues) = read_each_due(alloc, dues)? else {
         return Ok(None);
     };
-    Ok(Some(DuesState::from_context(here, DueList::in_order(dues)?)))
+    Ok(Some(DuesState::from_context(here, DueList::in_order(dues))))
 }
 
 /// The state of the lenient fields of a line of version 2.

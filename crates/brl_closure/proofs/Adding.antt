@@ -1,8 +1,9 @@
 -- Pairs that are added to a trail, each with an origin of some kind.
-use Rattle.std.proofs.Common.{◌≡◌, ℕ, List, [], ◌∷◌, ◌++◌, inl, inr, refl, sym, ◌∙◌, ap, subst, append-nil, append_assoc}
+use Rattle.std.proofs.Common.{◌≡◌, ℕ, List, [], ◌∷◌, ◌++◌, All, inl, inr, refl, sym, ◌∙◌, ap, subst, append-nil, append_assoc}
 use Rattle.std.proofs.lemmas.List.Elements.{All-nil, All-cons, All-append}
 use Rattle.brl_pairs.specs.Body.{NumberPair}
 use Rattle.brl_closure.specs.Trail.{AddsPairs, IsMoveOf, IsOneOf}
+use Rattle.brl_closure.specs.declared.search.trail.Origins.{Origins}
 use Rattle.brl_closure.specs.declared.search.trail.PairOrigin.{PairOrigin}
 use Rattle.brl_closure.specs.declared.search.trail.PairOrigin.TheVariants.{Still, Swapped}
 use Rattle.brl_closure.specs.declared.search.trail.Trail.{Trail}

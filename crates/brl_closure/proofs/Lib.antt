@@ -31,6 +31,7 @@ pub mod Members
 pub mod Listed
 pub mod InClosed
 pub mod MoreExcused
-pub mod InLists
-pub mod Renumbered
+pub mod Numbering
+pub mod Listing
+pub mod Fresh
 pub mod KnownLists

@@ -1,6 +1,6 @@
 -- Each reached pair has two runs; where the machine is exact, a reached pair with two ends gives a
 -- clash. So an unambiguous exact machine reaches closed sets.
-use Rattle.std.proofs.Common.{◌≡◌, ℕ, IsTrue, List, [], ◌∷◌, ◌++◌, inl, inr, refl, sym, ◌∙◌, ap, subst, arith, append-nil}
+use Rattle.std.proofs.Common.{◌≡◌, ◌≢◌, ℕ, IsTrue, List, [], ◌∷◌, ◌++◌, inl, inr, refl, sym, ◌∙◌, ap, subst, arith, append-nil}
 use Rattle.brl_pairs.specs.Body.{BodyView}
 use Rattle.brl_pairs.specs.Sets.{sets_of}
 use Rattle.brl_pairs.specs.declared.step.Pair.{Pair}

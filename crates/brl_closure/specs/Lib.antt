@@ -16,6 +16,6 @@ pub mod Trail
 pub mod Edges
 pub mod Worklist
 pub mod Path
-pub mod Numbering
+pub mod Fresh
 pub mod Diverging
 pub mod KnownSteps

@@ -1,5 +1,5 @@
--- Internal. The steps of a state that a check lists.
-use Rattle.std.specs.Prelude.{◌≡◌, ℕ, ◌<◌, List}
+-- Internal. The steps of a state or of a part that a check lists, and the numbers of the parts.
+use Rattle.std.specs.Prelude.{◌≡◌, ℕ, ◌<◌, List, length, Some, slice_get}
 use Rattle.brl_closure.specs.Least.{IsLeast}
 use Rattle.brl_closure.specs.Refusals.{HasStart, MissesState}
 use Rattle.brl_closure.specs.declared.check.fault.AcceptFault.{AcceptFault}
@@ -17,6 +17,11 @@ pub record IsFirstMissing {S : Type 0} (states : List S) (listed : List (Step S)
   pub has_rule : step.rule ≡ rule
   pub missing : IsMember states step.next → ⊥
   pub before : (k : ℕ) (x : Step S) → k < place → IsListedAt listed k x → IsMember states x.next
+
+-- these are the numbers of these parts among those that are kept
+pub record AreNumbersOf {P : Type 0} (parts listed : List P) (numbers : List ℕ) : Type 0 where
+  pub count : length numbers ≡ length listed
+  pub each : (k : ℕ) (part : P) (number : ℕ) → slice_get listed k ≡ Some part → slice_get numbers k ≡ Some number → slice_get parts number ≡ Some part
 
 -- a step leads to a state that isn't listed: the fault names the least state that has such a step,
 -- and the least rule of one there

@@ -7,12 +7,10 @@
 #![tactic(auto)]
 
 mod check;
-mod nearest;
-mod numbering;
+mod last_origins;
 mod search;
 
 pub use check::{AcceptFault, Accepted, accept, accept_up_to};
-pub use numbering::Numbering;
 pub use search::{
     Finder, KnownSteps, Origins, Outcome, PairOrigin, Search, StateOrigin, Stop, Texts, Trail,
     clash_law, in_closed_law, just_reached_law, lead_law, more_excused_law, no_limit_law,

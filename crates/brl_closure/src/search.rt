@@ -12,6 +12,7 @@
 mod edges;
 mod explore;
 mod finder;
+mod fresh;
 mod known_steps;
 mod laws;
 mod outcome;

@@ -10,12 +10,11 @@ use Rattle.brl_contexts.specs.Forms.{AreForms}
 use Rattle.brl_contexts.specs.declared.contexts.ByContext.{ByContext}
 use Rattle.brl_contexts.specs.declared.forms.Forms.{Forms}
 use Rattle.brl_contexts.specs.declared.named.Named.{Named}
-use Rattle.brl_pairs.proofs.InPlaces.{counting_on}
+use Rattle.brl_contexts.proofs.Found.{counting_on}
 use Rattle.brl_contexts.proofs.Own.{firsts_more}
 use Rattle.brl_contexts.proofs.PushChanges.{many_reads, opens_form, reads_of_form}
 use Rattle.brl_pairs.specs.Based.{KeepsSharing, Sharing, firsts, is_same, step_past, with_past}
 use Rattle.brl_pairs.specs.Listed.{AreListedEdges, IsByNumbers}
-use Rattle.brl_pairs.specs.Places.{HasEachPlace}
 use Rattle.brl_pairs.specs.Runs.{Behaviour}
 use Rattle.brl_pairs.specs.declared.edge.ListedEdge.{ListedEdge}
 use Rattle.brl_pairs.specs.declared.step.Step.{Step}
@@ -92,7 +91,6 @@ module _ {S : Type 0} (eq : S → S → Bool) (same : (a b : S) → eq a b ≡ t
   pub is_within : IsWithinForms forms own
   is_within = record {
     gates = are.gates.count ∙ many_reads h named steps forms are;
-    by_cells = subst (λ (n : ℕ). HasEachPlace n forms.by_cells.items) (sym are.edges.count) are.by_cells;
     opens = λ form place at.
         (let within = slice_get_within forms.gate_of.items form place at in
         let count = are.gates.count in

@@ -6,11 +6,17 @@ use Rattle.std.proofs.lemmas.List.{get_or-map, get_or_default, length-map}
 use Rattle.std.proofs.lemmas.List.Elements.{All-filter, All-get_or, All-tail}
 use Rattle.std.proofs.lemmas.List.FromFn.{get_or-range_with_len, length-range_with_len}
 use Rattle.std.specs.List.{range_with_len}
-use Rattle.brl_pairs.proofs.InPlaces.{counting_on}
 use Rattle.brl_contexts.specs.declared.met.Met.{Met}
 use Rattle.brl_contexts.specs.Met.{IsMet, met_at, met_by, met_in}
 use Rattle.brl_pairs.specs.Order.{all_at, at, is_around, places_around}
 use Rattle.brl_pairs.proofs.Listing.{Contains-in, IsIn, from-flat_map, from-map, in-Contains, in-flat_map, in-map}
+
+-- one number more
+pub counting_on : (a n : ℕ) → range_with_len a (n + 1) ≡ range_with_len a n ++ (a + n) ∷ []
+counting_on a zero = ap (λ k. k ∷ []) (let e : a ≡ a + 0 = omega arith in e)
+counting_on a (suc n) =
+    ap (range_with_len a) (let e : suc n + 1 ≡ suc (n + 1) = omega arith in e)
+    ∙ ap (λ l. a ∷ l) (counting_on (a + 1) n ∙ ap (λ k. range_with_len (a + 1) n ++ k ∷ []) (let e : a + 1 + n ≡ a + suc n = omega arith in e))
 
 -- each number of a range is below a limit, if all are
 pub below_all : (a n i limit : ℕ) → i < n → All (λ k. k < limit) (range_with_len a n) → a + i < limit

@@ -87,7 +87,6 @@ module _ {S D : Type 0} (m : Behaviour S) (h : Sharing S D) where
     reads = are.reads;
     order = are.order;
     all = are.all;
-    by_cells = are.by_cells;
     gates = are.gates;
   }
 

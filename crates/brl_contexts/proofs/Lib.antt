@@ -4,7 +4,7 @@ pub mod PastForms
 pub mod ByForm
 pub mod Orders
 pub mod Own
-pub mod ContextSteps
+pub mod Steps
 pub mod ChangesLaws
 pub mod Repeating
 pub mod PushChange

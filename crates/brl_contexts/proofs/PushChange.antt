@@ -7,7 +7,7 @@ use Rattle.brl_contexts.specs.declared.forms.Forms.{Forms}
 use Rattle.brl_contexts.specs.declared.named.Named.{Named}
 use Rattle.brl_contexts.proofs.ChangesLaws.{with_change, without_change}
 use Rattle.brl_contexts.proofs.Repeating.{is_there, was_there}
-use Rattle.brl_contexts.proofs.ContextSteps.{any_before, broken, fresh, longer, repeated, untouched}
+use Rattle.brl_contexts.proofs.Steps.{any_before, broken, fresh, longer, repeated, untouched}
 use Rattle.brl_pairs.specs.Based.{KeepsSharing, Sharing}
 use Rattle.brl_pairs.specs.Members.{HaveOneNumber}
 use Rattle.brl_pairs.specs.Runs.{Behaviour, KeepsLaws}

@@ -13,7 +13,7 @@ use Rattle.brl_contexts.specs.declared.named.Named.{Named}
 use Rattle.brl_contexts.proofs.ChangesLaws.{none_below, without_change}
 use Rattle.brl_contexts.proofs.Groups.{bound_of, form_within, next_bound, none_between, none_first}
 use Rattle.brl_contexts.proofs.Kept.{forms_kept}
-use Rattle.brl_contexts.proofs.ContextSteps.{untouched}
+use Rattle.brl_contexts.proofs.Steps.{untouched}
 use Rattle.brl_pairs.specs.Based.{KeepsSharing, Sharing, meeting}
 use Rattle.brl_pairs.specs.Order.{at as sequence_at}
 use Rattle.brl_pairs.specs.Runs.{Behaviour, KeepsLaws}

@@ -8,7 +8,7 @@ use Rattle.brl_contexts.specs.declared.changes.Change.{Change}
 use Rattle.brl_contexts.specs.declared.forms.Forms.{Forms}
 use Rattle.brl_contexts.specs.declared.named.Named.{Named}
 use Rattle.brl_contexts.proofs.ChangesLaws.{change_at, change_there}
-use Rattle.brl_contexts.proofs.ContextSteps.{any_before, first_before, from_own, into_before, longer_step, no_two, open_of}
+use Rattle.brl_contexts.proofs.Steps.{any_before, first_before, from_own, into_before, longer_step, no_two, open_of}
 use Rattle.brl_pairs.specs.Based.{KeepsSharing, Sharing, step_past}
 use Rattle.brl_pairs.specs.Members.{HaveOneNumber}
 use Rattle.brl_pairs.specs.Order.{at as sequence_at}

@@ -1,5 +1,5 @@
 -- Contexts, and the steps of states by them. The project's own choice.
-use Rattle.std.specs.Prelude.{◌≡◌, ℕ, ◌+◌, ◌<◌, false, List, [], ◌∷◌, Option, None, Some, flat_map, get_or, if◌then◌else◌, length, slice_get}
+use Rattle.std.specs.Prelude.{◌≡◌, ℕ, ◌<◌, false, List, [], ◌∷◌, Option, None, Some, flat_map, get_or, if◌then◌else◌, length, slice_get}
 use Rattle.std.specs.List.{range_with_len}
 use Rattle.brl_contexts.specs.Changes.{change_of}
 use Rattle.brl_contexts.specs.Forms.{AreForms}
@@ -12,7 +12,6 @@ use Rattle.brl_contexts.specs.declared.contexts.Expanded.TheVariants as steps
 use Rattle.brl_contexts.specs.declared.forms.Forms.{Forms}
 use Rattle.brl_pairs.specs.Based.{Sharing}
 use Rattle.brl_pairs.specs.Listed.{AreListedEdges}
-use Rattle.brl_pairs.specs.Places.{HasEachPlace}
 use Rattle.brl_pairs.specs.Runs.{Behaviour}
 use Rattle.brl_pairs.specs.declared.edge.ListedEdge.{ListedEdge}
 
@@ -84,7 +83,6 @@ edges_by contexts (steps.Own edges) = edges.items
 -- what a state says of forms is of these forms
 pub record IsWithinForms (forms : Forms) (own : ByContext) : Type 0 where
   pub gates : length forms.gate_of.items ≡ length forms.edges.items
-  pub by_cells : HasEachPlace (length forms.edges.items) forms.by_cells.items
   pub opens : (form place : ℕ) → slice_get forms.gate_of.items form ≡ Some place → place < length own.opens.items
   pub ascending : (i j : ℕ) (c d : Change) → i < j → slice_get own.changes.items i ≡ Some c → slice_get own.changes.items j ≡ Some d → c.form < d.form
   pub below : (i : ℕ) (c : Change) → slice_get own.changes.items i ≡ Some c → c.form < length forms.edges.items
@@ -100,11 +98,6 @@ pub record AreEdgesAt {S D : Type 0} (m : Behaviour S) (contexts : Contexts S D)
   pub state : S
   pub at : slice_get contexts.named.states number ≡ Some state
   pub edges : AreListedEdges contexts.named.states contexts.named.cells (m.steps state) (edges_by contexts expanded)
-
--- the place of an edge, if it is appended
-abbrev pub IsPlaceOfLast : List ListedEdge → List ListedEdge → Option ℕ → Type 0
-IsPlaceOfLast old new None = length new ≡ length old
-IsPlaceOfLast old new (Some place) = (place ≡ length old) × (length new ≡ length old + 1)
 
 -- the change at a place, if it is of this form
 abbrev pub IsChangeAt : List Change → ℕ → ℕ → Option Change → Type 0

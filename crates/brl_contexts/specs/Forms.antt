@@ -6,7 +6,6 @@ use Rattle.brl_contexts.specs.declared.named.Named.{Named}
 use Rattle.brl_pairs.specs.Based.{Sharing}
 use Rattle.brl_pairs.specs.Listed.{AreListedEdges}
 use Rattle.brl_pairs.specs.Order.{IsOrderOf}
-use Rattle.brl_pairs.specs.Places.{HasEachPlace}
 use Rattle.brl_pairs.specs.declared.step.Step.{Step}
 
 -- what steps read
@@ -29,5 +28,4 @@ pub record AreForms {S D : Type 0} (h : Sharing S D) (named : Named S D) (steps 
   pub reads : forms.reads.items ≡ reads_of steps
   pub order : IsOrderOf forms.reads.items forms.order
   pub all : HasAll (length steps) forms.order.numbers.items
-  pub by_cells : HasEachPlace (length steps) forms.by_cells.items
   pub gates : AreGates h.gate forms.reads.items forms.gates.items forms.gate_of.items

@@ -4,4 +4,3 @@ pub mod Named
 pub mod Forms
 pub mod Changes
 pub mod Contexts
-pub mod Whole

@@ -1,6 +1,5 @@
 //! What is due more after a step.
 use brl_pairs::Key;
-use std::alloc::{AllocError, Global};
 
 /// The number of a step's next state, and what is due more after the step than that state has due.
 #[derive(PartialEq, Eq, Hash, Drop)]
@@ -13,11 +12,4 @@ impl<D: Key> Key for Carried<D> {
     ghost use Rattle.brl_contexts.specs.SameCarried.{same_carried};
 
     ghost same = { same_carried D.eq D.same };
-
-    fn copy(&self, alloc: Global) -> Result<Carried<D>, AllocError> {
-        Ok(Carried {
-            next: self.next,
-            more: self.more.copy(alloc)?,
-        })
-    }
 }

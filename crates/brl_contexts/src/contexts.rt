@@ -1,15 +1,14 @@
 //! Contexts, and the steps of states by them.
 ghost use Rattle.std.specs.Prelude.{◌≡◌, ◌<◌, ◌++◌, IfOk, OnOk, Some, length, option_map, slice_get};
-ghost use Rattle.brl_contexts.specs.Contexts.{AreContexts, AreEdgesAt, HasContext, IsChangeAt, IsEmpty, IsWithin, IsPlaceOfLast, IsWithinForms, StillKnows, changed, edges_by, edges_in as edges_by_forms};
+ghost use Rattle.brl_contexts.specs.Contexts.{AreContexts, AreEdgesAt, HasContext, IsChangeAt, IsEmpty, IsWithin, IsWithinForms, StillKnows, changed, edges_by, edges_in as edges_by_forms};
 ghost use Rattle.brl_contexts.specs.Named.{StillCarries, StillNames};
 ghost use Rattle.brl_contexts.specs.declared.contexts.Expanded.TheVariants as steps;
 ghost use Rattle.brl_pairs.specs.Listed.{AreListedEdges};
-ghost use Rattle.brl_pairs.specs.Places.{ArePlacesIn, HasEachPlace};
 
 use crate::changes::{Change, changes_of, opened};
 use crate::forms::{Forms, list_forms, number_steps};
 use crate::named::Named;
-use brl_pairs::{Based, Key, ListedEdge, Members, Seed, as_u32, places_below, places_through};
+use brl_pairs::{Based, Key, ListedEdge, Members, Seed};
 use std::alloc::{AllocError, Global};
 
 /// The contexts of a machine: the bases that its states have, each with its forms. States and cells
@@ -36,25 +35,6 @@ pub struct ByContext {
     pub changes: Vec<Change>,
 }
 
-/// The steps of a state, by numbers.
-#[derive(Drop)]
-pub struct Steps {
-    /// The steps in listed order.
-    pub edges: Vec<ListedEdge>,
-    /// The places of the steps in listed order, each once, in the order of their cells where the
-    /// state has a context.
-    pub order: Vec<u32>,
-    /// The number of the state's context, if it has one.
-    pub context: Option<usize>,
-}
-
-/// The steps of a state in listed order, and the place that each form has among them.
-#[derive(Drop)]
-struct Placed {
-    edges: Vec<ListedEdge>,
-    places: Vec<Option<u32>>,
-}
-
 /// An expanded state: what its steps are.
 #[derive(Drop)]
 pub enum Expanded {
@@ -77,34 +57,6 @@ impl<S: Key, D: Key> Contexts<S, D> {
         }
     }
 
-    /// The steps of an expanded state. `AllocError` if memory runs out.
-    fn steps(&self, alloc: Global, expanded: Expanded) -> Result<Steps, AllocError>
-        requires { IsWithin self.now expanded }
-        ensures edges { IfOk result (λ steps. steps.edges.items ≡ edges_by self.now expanded) }
-        ensures order { IfOk result (λ steps. HasEachPlace (length steps.edges.items) steps.order.items) }
-    {
-        match expanded {
-            Expanded::ByContext(own) => {
-                let forms = &self.forms[own.context];
-                let Placed { edges, places } = edges_in(alloc, forms, &own)?;
-                let order = places_through(alloc, forms.by_cells.as_slice(), places.as_slice())?;
-                Ok(Steps {
-                    edges,
-                    order,
-                    context: Some(own.context),
-                })
-            }
-            Expanded::Own(edges) => {
-                let order = places_below(alloc, edges.len())?;
-                Ok(Steps {
-                    edges,
-                    order,
-                    context: None,
-                })
-            }
-        }
-    }
-
     /// The steps of an expanded state, by numbers, in listed order. `AllocError` if memory runs
     /// out.
     pub fn edges(&self, alloc: Global, expanded: &Expanded) -> Result<Vec<ListedEdge>, AllocError>
@@ -112,10 +64,7 @@ impl<S: Key, D: Key> Contexts<S, D> {
         ensures { IfOk result (λ edges. edges.items ≡ edges_by self.now expanded.now) }
     {
         match expanded {
-            Expanded::ByContext(own) => {
-                let Placed { edges, .. } = edges_in(alloc, &self.forms[own.context], own)?;
-                Ok(edges)
-            }
+            Expanded::ByContext(own) => edges_in(alloc, &self.forms[own.context], own),
             Expanded::Own(edges) => Vec::from_slice(alloc, edges.as_slice()),
         }
     }
@@ -147,27 +96,6 @@ pub fn expand<B: Based>(
             Ok(Expanded::Own(edges))
         }
     }
-}
-
-/// The steps of a state, by the numbers that states and cells have in the contexts. The numbers
-/// that were there stay. `AllocError` if memory runs out.
-pub fn steps_of<B: Based>(
-    alloc: Global,
-    machine: &B,
-    contexts: &mut Contexts<B::State, B::More>,
-    state: &B::State,
-) -> Result<Steps, AllocError>
-    requires contexts { AreContexts (B.behaviour machine.now) (B.sharing machine.now) contexts.old }
-    ensures contexts { OnOk result (AreContexts (B.behaviour machine.now) (B.sharing machine.now) contexts.new) }
-    ensures knows { OnOk result (StillKnows contexts.old contexts.new) }
-    ensures edges { IfOk result (λ steps. AreListedEdges contexts.new.named.states contexts.new.named.cells ((B.behaviour machine.now).steps state.now) steps.edges.items) }
-    ensures order { IfOk result (λ steps. HasEachPlace (length steps.edges.items) steps.order.items) }
-{
-    let copy = state.copy(alloc)?;
-    let number = contexts.named.number_of(copy)?;
-    let own = expand(alloc, machine, contexts, number as usize)?;
-    let steps = contexts.steps(alloc, own)?;
-    Ok(steps)
 }
 
 /// The number of the context with this base, whose forms are listed where it is a new one.
@@ -245,29 +173,23 @@ fn list_own<B: Based>(
     Ok(edges)
 }
 
-/// The steps of a state by its context.
-fn edges_in(alloc: Global, forms: &Forms, own: &ByContext) -> Result<Placed, AllocError>
+/// The steps of a state by its context, in listed order.
+fn edges_in(alloc: Global, forms: &Forms, own: &ByContext) -> Result<Vec<ListedEdge>, AllocError>
     requires { IsWithinForms forms.now own.now }
-    ensures edges { IfOk result (λ placed. placed.edges.items ≡ edges_by_forms forms.now own.now) }
-    ensures count { IfOk result (λ placed. length placed.places.items ≡ length forms.now.edges.items) }
-    ensures places { IfOk result (λ placed. ArePlacesIn (length placed.edges.items) placed.places.items) }
+    ensures { IfOk result (λ edges. edges.items ≡ edges_by_forms forms.now own.now) }
 {
     let mut edges = Vec::with_capacity(alloc, forms.edges.len())?;
-    let mut places = Vec::with_capacity(alloc, forms.edges.len())?;
     let mut next = 0;
     for form in 0..forms.edges.len() {
         let change = change_at(own.changes.as_slice(), next, form);
         if change.is_some() {
             next += 1;
         }
-        let place = if own.opens[forms.gate_of[form] as usize] {
-            push_edge(forms.edges[form], change, &mut edges)?
-        } else {
-            None
-        };
-        places.push(place)?;
+        if own.opens[forms.gate_of[form] as usize] {
+            push_edge(forms.edges[form], change, &mut edges)?;
+        }
     }
-    Ok(Placed { edges, places })
+    Ok(edges)
 }
 
 /// The change at a place, if there is one and it is of this form.
@@ -280,27 +202,23 @@ fn change_at(changes: &[Change], place: usize, form: usize) -> Option<Change>
     }
 }
 
-/// Appends what a state has of a form that it changes so, or leaves as it is. The place of the
-/// edge, if there is one.
+/// Appends what a state has of a form that it changes so, or leaves as it is.
 fn push_edge(
     edge: ListedEdge,
     change: Option<Change>,
     edges: &mut Vec<ListedEdge>,
-) -> Result<Option<u32>, AllocError>
-    ensures edges { OnOk result (edges.new.items ≡ edges.old.items ++ changed edge (option_map (λ c. c.next) change)) }
-    ensures place { IfOk result (λ place. IsPlaceOfLast edges.old.items edges.new.items place) }
+) -> Result<(), AllocError>
+    ensures { OnOk result (edges.new.items ≡ edges.old.items ++ changed edge (option_map (λ c. c.next) change)) }
 {
-    let next = match change {
-        None => edge.next,
-        Some(Change { next: None, .. }) => return Ok(None),
+    match change {
+        None => edges.push(edge)?,
+        Some(Change { next: None, .. }) => {}
         Some(
             Change {
                 next: Some(next),
                 ..
             },
-        ) => next,
-    };
-    let place = as_u32(edges.len())?;
-    edges.push(ListedEdge { next, ..edge })?;
-    Ok(Some(place))
+        ) => edges.push(ListedEdge { next, ..edge })?,
+    }
+    Ok(())
 }

@@ -1,16 +1,16 @@
 //! The steps of a base, by numbers.
 ghost use Rattle.std.specs.Prelude.{◌≡◌, [], ℕ, IfOk, OnOk, Some, length, slice_get};
+ghost use Rattle.std.specs.List.{range_with_len};
 ghost use Rattle.std.specs.Cmp.Lexicographic.{slice_cmp};
 ghost use Rattle.std.specs.Ordering.{nat_cmp};
 ghost use Rattle.brl_contexts.specs.Forms.{AreForms, AreGates, HasAll, reads_of};
 ghost use Rattle.brl_contexts.specs.Named.{StillCarries, StillNames};
 ghost use Rattle.brl_pairs.specs.Listed.{AreListedEdges};
 ghost use Rattle.brl_pairs.specs.Order.{IsOrderOf, at as sequence_at};
-ghost use Rattle.brl_pairs.specs.Places.{HasEachPlace};
 
 use crate::named::Named;
-use brl_cells::{Cells, Chars};
-use brl_pairs::{Based, Key, ListedEdge, Order, Step, as_u32, cells_at, places_below};
+use brl_cells::Chars;
+use brl_pairs::{Based, Key, ListedEdge, Order, Step, as_u32};
 use std::alloc::{AllocError, Global};
 use std::cmp::Ordering;
 
@@ -23,8 +23,6 @@ pub struct Forms {
     pub reads: Vec<Chars>,
     /// The forms in the order of what they read.
     pub order: Order,
-    /// The forms in the order of their cells, each once.
-    pub by_cells: Vec<u32>,
     /// The gates of all forms, each once.
     pub gates: Vec<u8>,
     /// For each form the place of its gate.
@@ -48,14 +46,12 @@ pub fn list_forms<B: Based>(
     let mut reads = Vec::with_capacity(alloc, steps.len())?;
     number_steps(named, steps, &mut edges, &mut reads)?;
     let order = order_of(alloc, reads.as_slice())?;
-    let by_cells = by_cells_of(alloc, named.cells.as_slice(), edges.as_slice())?;
     let mut gates = Vec::new(alloc);
     let gate_of = gates_of(alloc, machine, reads.as_slice(), &mut gates)?;
     Ok(Forms {
         edges,
         reads,
         order,
-        by_cells,
         gates,
         gate_of,
     })
@@ -109,34 +105,26 @@ fn compare_reads(reads: &[Chars], one: u32, other: u32) -> Ordering
     reads_at(reads, one).cmp(reads_at(reads, other))
 }
 
+/// The numbers below a count, ascending.
+fn numbers_below(alloc: Global, count: usize) -> Result<Vec<u32>, AllocError>
+    ensures { IfOk result (λ numbers. numbers.items ≡ range_with_len 0 count) }
+{
+    let mut numbers = Vec::with_capacity(alloc, count)?;
+    for number in 0..count {
+        numbers.push(as_u32(number)?)?;
+    }
+    Ok(numbers)
+}
+
 /// All forms in the order of what they read.
 fn order_of(alloc: Global, reads: &[Chars]) -> Result<Order, AllocError>
     ensures order { IfOk result (IsOrderOf reads.now) }
     ensures all { IfOk result (λ order. HasAll (length reads.now) order.numbers.items) }
 {
-    let mut numbers = places_below(alloc, reads.len())?;
+    let mut numbers = numbers_below(alloc, reads.len())?;
     numbers.sort_unstable_by(|one, other| compare_reads(reads, *one, *other));
     let order = Order::new(alloc, reads, numbers)?;
     Ok(order)
-}
-
-/// All forms in the order of their cells.
-fn by_cells_of(alloc: Global, cells: &[Cells], edges: &[ListedEdge]) -> Result<Vec<u32>, AllocError>
-    ensures { IfOk result (λ forms. HasEachPlace (length edges.now) forms.items) }
-{
-    let mut forms = places_below(alloc, edges.len())?;
-    forms.sort_unstable_by(|one, other| compare_forms(cells, edges, *one, *other));
-    Ok(forms)
-}
-
-/// Which of two forms comes first by its cells.
-fn compare_forms(cells: &[Cells], edges: &[ListedEdge], one: u32, other: u32) -> Ordering {
-    match (edges.get(one as usize), edges.get(other as usize)) {
-        (Some(first), Some(second)) => {
-            cells_at(cells, first.cells).cmp(cells_at(cells, second.cells))
-        }
-        _ => Ordering::Equal,
-    }
 }
 
 /// For each form the place of its gate among the gates, which are all that the forms have.

@@ -23,7 +23,7 @@ settled_by_list m it cells number x y rules two there s r s_taken r_taken =
     let other : rules.1 ≡ r.rule = other_rule m it.trail.states cells number x y rules two r r_taken in
     inl (subst (Contains (rules_of it.list)) (λ i. (one i, other i)) there)
 
-module _ {M S D : Type 0} (behaviour : M → Behaviour S) (f : Finder M S) (e : Expanded S D) (t u v : Trail S) (number i j : ℕ) (explored : IsExplored behaviour f e t) (adds : AddsPairs (IsOfSplit number i j (length t.pairs)) t u) where
+module _ {M S : Type 0} (behaviour : M → Behaviour S) (f : Finder M S) (e : Expanded) (t u v : Trail S) (number i j : ℕ) (explored : IsExplored behaviour f e t) (adds : AddsPairs (IsOfSplit number i j (length t.pairs)) t u) where
   -- where the pairs that were added are dropped, all is as before
   module _ (states : v.states ≡ u.states) (state_origins : v.state_origins.items ≡ u.state_origins.items) (pairs : v.pairs ≡ take (length t.pairs) u.pairs) (origins : v.pair_origins.items ≡ take (length t.pairs) u.pair_origins.items) where
     many : length t.pair_origins.items ≡ length t.pairs
@@ -53,7 +53,7 @@ module _ {M S D : Type 0} (behaviour : M → Behaviour S) (f : Finder M S) (e : 
         }
 
 -- the texts of two ends that were met diverge at the rules of the split
-pub texts_diverge : {M S D : Type 0} (behaviour : M → Behaviour S) (f : Finder M S) (e : Expanded S D) (t u : Trail S) (cells : List (List ℕ)) (number : ℕ) (x y : SortedEdge) (rules : ℕ × ℕ)
+pub texts_diverge : {M S : Type 0} (behaviour : M → Behaviour S) (f : Finder M S) (e : Expanded) (t u : Trail S) (cells : List (List ℕ)) (number : ℕ) (x y : SortedEdge) (rules : ℕ × ℕ)
     → IsExplored behaviour f e t → AreTwoEdges (behaviour f.machine.now) t.states cells number x y rules → AddsPairs (IsOfSplit number x.place y.place (length t.pairs)) t u
     → (n : ℕ) → HasTwoEndsAt (behaviour f.machine.now) u.states u.pairs n → (left right : List ℕ) → AreTextsOf (behaviour f.machine.now) u n left right → AreTwoPathsAt (behaviour f.machine.now) rules.0 rules.1 left right
 texts_diverge behaviour f e t u cells number x y rules explored two adds n ends left right texts =

@@ -1,8 +1,7 @@
 -- Steps that are settled stay settled, and where all are, the sets are closed but for the listed
 -- pairs of rules.
-use Rattle.std.proofs.Common.{◌≡◌, ℕ, ◌<◌, ◌≤◌, ◌⊎◌, List, inl, inr, length, Some, slice_get, refl, ◌∙◌, ap, subst, arith}
+use Rattle.std.proofs.Common.{◌≡◌, ℕ, ◌<◌, ◌≤◌, ◌⊎◌, List, inl, inr, length, Some, slice_get, refl, sym, ◌∙◌, ap, subst, arith}
 use Rattle.std.proofs.lemmas.Option.{slice_get_within}
-use Rattle.brl_pairs.specs.Based.{Sharing}
 use Rattle.brl_pairs.specs.Body.{listed}
 use Rattle.brl_pairs.specs.Divergence.{HaveRules, IsClosedBut}
 use Rattle.brl_pairs.specs.Edges.{AreEdges}
@@ -13,6 +12,7 @@ use Rattle.brl_pairs.specs.declared.edge.Edge.{Edge}
 use Rattle.brl_pairs.specs.declared.step.Pair.{Pair}
 use Rattle.brl_pairs.specs.declared.step.Step.{Step}
 use Rattle.brl_pairs.proofs.Lists.{either_way, inside}
+use Rattle.brl_parts.specs.Parts.{AreKeptParts, PartsView, no_parts}
 use Rattle.brl_closure.specs.Trail.{TakesStep}
 use Rattle.brl_closure.specs.declared.search.finder.Finder.{Finder}
 use Rattle.brl_closure.proofs.Closed.{earlier_longer, ends_apart, later_longer, moves_there, steps_there}
@@ -53,7 +53,7 @@ module _ {S : Type 0} where
 
 -- ---- Where all is done
 
-module _ {M S D : Type 0} (behaviour : M → Behaviour S) (f : Finder M S) (e : Expanded S D) (it : FoundSoFar S) (done : IsDone behaviour f e it) where
+module _ {M S : Type 0} (behaviour : M → Behaviour S) (f : Finder M S) (e : Expanded) (it : FoundSoFar S) (done : IsDone behaviour f e it) where
   -- the edges of a state
   edges_at : (k : ℕ) → k < length it.trail.states → (edges : List Edge) × AreEdges (behaviour f.machine.now) it.trail.states k edges
   edges_at k less =
@@ -97,9 +97,9 @@ module _ {M S D : Type 0} (behaviour : M → Behaviour S) (f : Finder M S) (e : 
 
 -- ---- Steps of a listing
 
-module _ {M S D : Type 0} (behaviour : M → Behaviour S) (sharing : M → Sharing S D) (f : Finder M S) (e : Expanded S D) (it : FoundSoFar S) where
+module _ {M S P : Type 0} (behaviour : M → Behaviour S) (steps_of : M → P → List (Step S)) (f : Finder M S) (e : Expanded) (parts : PartsView P) (it : FoundSoFar S) where
   -- where all states are expanded and no pair is found yet, nothing is left to be walked
-  pub sound_from_expanding : IsExpanding behaviour sharing f e it → length it.trail.states ≤ length e.edges.items → IsSound behaviour f e it
+  pub sound_from_expanding : IsExpanding behaviour steps_of f e parts it → length it.trail.states ≤ length e.edges.items → IsSound behaviour f e it
   sound_from_expanding h all = record {
     explored = record {
       ready = record { active = h.active; expanded = h.expanded; all = omega (arith, h.there, all) };
@@ -111,7 +111,7 @@ module _ {M S D : Type 0} (behaviour : M → Behaviour S) (sharing : M → Shari
   }
 
   -- so the splits of states can be settled
-  pub settling_of : (settled : ℕ) → IsWorking behaviour sharing f e it settled → length it.trail.states ≤ length e.edges.items → IsSettling behaviour f e it settled
+  pub settling_of : (settled : ℕ) → IsWorking behaviour steps_of f e parts it settled → length it.trail.states ≤ length e.edges.items → IsSettling behaviour f e it settled
   settling_of settled (inl h) all = record {
     sound = sound_from_expanding h.0 all;
     there = let none : settled ≡ 0 = h.1 in omega (arith, none);
@@ -120,6 +120,27 @@ module _ {M S D : Type 0} (behaviour : M → Behaviour S) (sharing : M → Shari
   settling_of settled (inr h) all = h
 
   -- as long as a state isn't expanded, none is settled
-  pub expanding_of : (settled : ℕ) → IsWorking behaviour sharing f e it settled → length e.edges.items < length it.trail.states → IsExpanding behaviour sharing f e it × (settled ≡ 0)
+  pub expanding_of : (settled : ℕ) → IsWorking behaviour steps_of f e parts it settled → length e.edges.items < length it.trail.states → IsExpanding behaviour steps_of f e parts it × (settled ≡ 0)
   expanding_of settled (inl h) less = h
   expanding_of settled (inr h) less = absurd (let all = h.sound.explored.ready.all in omega (arith, all, less))
+
+-- where the same parts are kept, or none, what holds of a listing goes on holding
+pub working_without : {M S P : Type 0} (behaviour : M → Behaviour S) (steps_of : M → P → List (Step S)) (f : Finder M S) (e : Expanded) (parts kept : PartsView P) (it : FoundSoFar S) (settled : ℕ)
+    → IsWorking behaviour steps_of f e parts it settled → (kept ≡ parts) ⊎ (kept ≡ no_parts) → IsWorking behaviour steps_of f e kept it settled
+working_without behaviour steps_of f e parts kept it settled (inr settling) which = inr settling
+working_without behaviour steps_of f e parts kept it settled (inl (expanding, none)) which = inl (
+  record {
+    active = expanding.active;
+    expanded = expanding.expanded;
+    kept_parts = elim which [
+      | inl same ↦ subst (AreKeptParts (steps_of f.machine.now) it.trail.states e.cells) (sym same) expanding.kept_parts
+      | inr empty ↦ subst (AreKeptParts (steps_of f.machine.now) it.trail.states e.cells) (sym empty) (λ number part edges is. (let there = is.part_at in cc))
+    ];
+    there = expanding.there;
+    no_pairs = expanding.no_pairs;
+    listed = expanding.listed;
+    few = expanding.few;
+    no_known = expanding.no_known;
+  },
+  none,
+)

@@ -42,8 +42,8 @@ module _ {S : Type 0} (m : Behaviour S) where
   }
 
   -- one state more is expanded
-  pub one_expanded : {D : Type 0} (xs ys : List S) (e d : Expanded S D) (sorted : Vec SortedEdge) (rules : Vec ℕ) → Stays xs ys → Stays e.numbering.contexts.named.cells d.numbering.contexts.named.cells → d.edges.items ≡ e.edges.items ++ sorted ∷ [] → d.rules.items ≡ e.rules.items ++ rules ∷ []
-      → AreStepsOf m ys (length e.edges.items) d.numbering.contexts.named.cells sorted.items rules.items → AreExpanded m xs e → AreExpanded m ys d
+  pub one_expanded : (xs ys : List S) (e d : Expanded) (sorted : Vec SortedEdge) (rules : Vec ℕ) → Stays xs ys → Stays e.cells d.cells → d.edges.items ≡ e.edges.items ++ sorted ∷ [] → d.rules.items ≡ e.rules.items ++ rules ∷ []
+      → AreStepsOf m ys (length e.edges.items) d.cells sorted.items rules.items → AreExpanded m xs e → AreExpanded m ys d
   one_expanded xs ys e d sorted rules states cells edges_is rules_is last h =
       let edges_more : length d.edges.items ≡ length e.edges.items + 1 = ap length edges_is ∙ length_push e.edges.items sorted in
       let rules_more : length d.rules.items ≡ length e.rules.items + 1 = ap length rules_is ∙ length_push e.rules.items rules in
@@ -52,7 +52,7 @@ module _ {S : Type 0} (m : Behaviour S) where
         each = λ number s r s_at r_at.
             elim (push_cases e.edges.items sorted number s (ap (λ (l : List (Vec SortedEdge)). slice_get l number) (sym edges_is) ∙ s_at)) [
               | inl s_before ↦ elim (push_cases e.rules.items rules number r (ap (λ (l : List (Vec ℕ)). slice_get l number) (sym rules_is) ∙ r_at)) [
-                | inl r_before ↦ steps_more xs ys e.numbering.contexts.named.cells d.numbering.contexts.named.cells states cells number s.items r.items (h.each number s r s_before r_before)
+                | inl r_before ↦ steps_more xs ys e.cells d.cells states cells number s.items r.items (h.each number s r s_before r_before)
                 | inr r_last ↦ (
                     let within : number < length e.edges.items = slice_get_within e.edges.items number s s_before in
                     let here : number ≡ length e.rules.items = r_last.0 in
@@ -64,19 +64,19 @@ module _ {S : Type 0} (m : Behaviour S) where
                     let here : number ≡ length e.edges.items = s_last.0 in
                     absurd (omega (arith, within, here, h.many)))
                 | inr r_last ↦
-                    subst (λ (n : ℕ). AreStepsOf m ys n d.numbering.contexts.named.cells s.items r.items) (sym s_last.0)
-                    (subst (λ (v : Vec SortedEdge). AreStepsOf m ys (length e.edges.items) d.numbering.contexts.named.cells v.items r.items) s_last.1
-                    (subst (λ (v : Vec ℕ). AreStepsOf m ys (length e.edges.items) d.numbering.contexts.named.cells sorted.items v.items) r_last.1 last))
+                    subst (λ (n : ℕ). AreStepsOf m ys n d.cells s.items r.items) (sym s_last.0)
+                    (subst (λ (v : Vec SortedEdge). AreStepsOf m ys (length e.edges.items) d.cells v.items r.items) s_last.1
+                    (subst (λ (v : Vec ℕ). AreStepsOf m ys (length e.edges.items) d.cells sorted.items v.items) r_last.1 last))
               ]
             ];
       }
 
-  module _ {D : Type 0} (states : List S) (e : Expanded S D) (h : AreExpanded m states e) where
+  module _ (states : List S) (e : Expanded) (h : AreExpanded m states e) where
     -- the rules of a state that is expanded
     pub rules_there : (number : ℕ) → number < length e.edges.items → (rules : Vec ℕ) × (slice_get e.rules.items number ≡ Some rules)
     rules_there number less = inside e.rules.items number (omega (arith, less, h.many))
 
-    pub kept_edges : AreKeptEdges m states e.numbering.contexts.named.cells e.edges.items
+    pub kept_edges : AreKeptEdges m states e.cells e.edges.items
     kept_edges number sorted at =
         let rules = rules_there number (slice_get_within e.edges.items number sorted at) in
         let steps = h.each number sorted rules.0 at rules.1 in
@@ -92,7 +92,7 @@ module _ {S : Type 0} (m : Behaviour S) where
 
     -- two edges with their rules
     pub two_edges : (number : ℕ) (x y : SortedEdge) → IsEdgeOf e number x → IsEdgeOf e number y → x.place < y.place → (rules : Vec ℕ) → slice_get e.rules.items number ≡ Some rules
-        → (r s : ℕ) → slice_get rules.items x.place ≡ Some r → slice_get rules.items y.place ≡ Some s → AreTwoEdges m states e.numbering.contexts.named.cells number x y (r, s)
+        → (r s : ℕ) → slice_get rules.items x.place ≡ Some r → slice_get rules.items y.place ≡ Some s → AreTwoEdges m states e.cells number x y (r, s)
     two_edges number x y one other less rules rules_at r s r_at s_at =
         let steps = h.each number one.sorted rules one.at rules_at in
         let same : other.sorted ≡ one.sorted = same_place e.edges.items number other.sorted one.sorted other.at one.at in

@@ -23,10 +23,10 @@ pub record AreStepsOf {S : Type 0} (m : Behaviour S) (states : List S) (number :
   pub rules_of : rules ≡ rules_of_edges edges
 
 -- the steps of the states with the first numbers are kept
-pub record AreExpanded {S D : Type 0} (m : Behaviour S) (states : List S) (e : Expanded S D) : Type 0 where
+pub record AreExpanded {S : Type 0} (m : Behaviour S) (states : List S) (e : Expanded) : Type 0 where
   pub many : length e.rules.items ≡ length e.edges.items
   pub each : (number : ℕ) (sorted : Vec SortedEdge) (rules : Vec ℕ) → slice_get e.edges.items number ≡ Some sorted → slice_get e.rules.items number ≡ Some rules
-      → AreStepsOf m states number e.numbering.contexts.named.cells sorted.items rules.items
+      → AreStepsOf m states number e.cells sorted.items rules.items
 
 -- these are two edges of the state with this number, the first before the second, and these are
 -- their rules
@@ -40,18 +40,18 @@ pub record AreTwoEdges {S : Type 0} (m : Behaviour S) (states : List S) (cells :
   pub second_rule : rules.1 ≡ second.edge.rule
 
 -- this is one of the kept edges of the state with this number
-pub record IsEdgeOf {S D : Type 0} (e : Expanded S D) (number : ℕ) (x : SortedEdge) : Type 0 where
+pub record IsEdgeOf (e : Expanded) (number : ℕ) (x : SortedEdge) : Type 0 where
   pub sorted : Vec SortedEdge
   pub at : slice_get e.edges.items number ≡ Some sorted
   pub one : Contains sorted.items x
 
 -- the state with this number is expanded, and one of its edges has this place
-pub record IsPlaceOf {S D : Type 0} (e : Expanded S D) (number place : ℕ) : Type 0 where
+pub record IsPlaceOf (e : Expanded) (number place : ℕ) : Type 0 where
   pub there : number < length e.edges.items
   pub rules : Vec ℕ
   pub at : slice_get e.rules.items number ≡ Some rules
   pub within : place < length rules.items
 
 -- these are the splits of the state with this number
-abbrev pub AreSplitsOf : {S D : Type 0} → Expanded S D → ℕ → Splits → Type 0
-AreSplitsOf e number splits = (sorted : Vec SortedEdge) → slice_get e.edges.items number ≡ Some sorted → AreSplits e.numbering.contexts.named.cells sorted.items splits
+abbrev pub AreSplitsOf : Expanded → ℕ → Splits → Type 0
+AreSplitsOf e number splits = (sorted : Vec SortedEdge) → slice_get e.edges.items number ≡ Some sorted → AreSplits e.cells sorted.items splits

@@ -54,19 +54,19 @@ IsOfSplit number i j from (Still pair place) = from ≤ pair
 IsOfSplit number i j from (Swapped pair place) = from ≤ pair
 
 -- all states are expanded, and nothing has stopped the search
-pub record AreAllExpanded {M S D : Type 0} (behaviour : M → Behaviour S) (f : Finder M S) (e : Expanded S D) (t : Trail S) : Type 0 where
+pub record AreAllExpanded {M S : Type 0} (behaviour : M → Behaviour S) (f : Finder M S) (e : Expanded) (t : Trail S) : Type 0 where
   pub active : IsActive behaviour f t
   pub expanded : AreExpanded (behaviour f.machine.now) t.states e
   pub all : length e.edges.items ≡ length t.states
 
 -- and all pairs are walked
-pub record IsExplored {M S D : Type 0} (behaviour : M → Behaviour S) (f : Finder M S) (e : Expanded S D) (t : Trail S) : Type 0 where
+pub record IsExplored {M S : Type 0} (behaviour : M → Behaviour S) (f : Finder M S) (e : Expanded) (t : Trail S) : Type 0 where
   pub ready : AreAllExpanded behaviour f e t
   pub walked : (n : ℕ) → n < length t.pairs → IsWalked (behaviour f.machine.now) t.states t.pairs n
 
 -- and each listed pair of rules has its texts, and the steps that are kept are those of their
 -- states
-pub record IsSound {M S D : Type 0} (behaviour : M → Behaviour S) (f : Finder M S) (e : Expanded S D) (it : FoundSoFar S) : Type 0 where
+pub record IsSound {M S : Type 0} (behaviour : M → Behaviour S) (f : Finder M S) (e : Expanded) (it : FoundSoFar S) : Type 0 where
   pub explored : IsExplored behaviour f e it.trail
   pub listed : IsListed (behaviour f.machine.now) it.list
   pub few : btree_map_len it.list ≤ f.limit

@@ -1,38 +1,36 @@
 //! The steps of the states that have been expanded.
-ghost use Rattle.std.specs.Prelude.{◌≡◌, ◌+◌, ◌<◌, [], length, map, IfErr, IfOk, OnOk};
-ghost use Rattle.brl_closure.specs.Numbering.{IsNumbering};
+ghost use Rattle.std.specs.Prelude.{◌≡◌, ◌⊎◌, ◌+◌, ◌<◌, [], length, map, IfErr, IfOk, OnOk};
 ghost use Rattle.brl_closure.specs.Trail.{Advances, HasPassed, IsActive, IsTraced};
-ghost use Rattle.brl_contexts.specs.Contexts.{IsEmpty};
 ghost use Rattle.brl_divergence.specs.Expanded.{AreExpanded};
 ghost use Rattle.brl_failure.specs.Failure.{IfFault};
+ghost use Rattle.brl_parts.specs.Parts.{AreKeptParts, no_parts};
 
-use brl_closure::{Finder, Numbering, Stop, Trail};
+use brl_closure::{Finder, Stop, Trail};
 use brl_failure::Failure;
-use brl_pairs::{Based, Key, ListedEdge, Seed, SortedEdge, sort_edges};
+use brl_pairs::{KeptCells, Key, ListedEdge, Parted, Seed, SortedEdge, sort_edges};
+use brl_parts::Parts;
 use std::alloc::{AllocError, Global};
 
 /// The steps of the states that have been expanded. States are expanded in the order in which they
 /// are found.
 #[derive(Drop)]
-pub struct Expanded<S: Key, D: Key> {
-    /// The contexts of the states, whose cells edges name by their numbers.
-    pub numbering: Numbering<S, D>,
+pub struct Expanded {
+    /// The cells of edges, each once. Edges name them by their numbers.
+    pub cells: KeptCells,
     /// The edges of each state, in the order of their cells.
     pub edges: Vec<Vec<SortedEdge>>,
     /// The rules of each state's edges, by their places.
     pub rules: Vec<Vec<u32>>,
 }
 
-impl<S: Key, D: Key> Expanded<S, D> {
-    /// No state is expanded. Contexts will be found by hashes of this seed.
-    pub fn new(alloc: Global, seed: Seed) -> Expanded<S, D>
-        ensures contexts { IsEmpty result.numbering.contexts }
-        ensures numbers { result.numbering.numbers.items ≡ [] }
+impl Expanded {
+    /// No state is expanded. Cells will be found by hashes of this seed.
+    pub fn new(alloc: Global, seed: Seed) -> Expanded
         ensures edges { result.edges.items ≡ [] }
         ensures rules { result.rules.items ≡ [] }
     {
         Expanded {
-            numbering: Numbering::new(alloc, seed),
+            cells: KeptCells::new(alloc, seed),
             edges: Vec::new(alloc),
             rules: Vec::new(alloc),
         }
@@ -46,19 +44,32 @@ fn rules_of(alloc: Global, edges: &[ListedEdge]) -> Result<Vec<u32>, AllocError>
     edges.iter().map(|edge| edge.rule).collect(alloc)
 }
 
-/// Expands the next state: its next states are found, and its edges are kept.
-pub fn expand_next<M: Based>(
+/// Drops all kept parts where they have too many edges (`Parts::is_full`), or where no state is
+/// left to be expanded, since then none is asked for. New ones will be found by hashes of this
+/// seed.
+pub fn forget_parts<P: Key>(alloc: Global, seed: Seed, none_left: bool, parts: &mut Parts<P>)
+    ensures { (parts.new ≡ parts.old) ⊎ (parts.new ≡ no_parts) }
+{
+    if none_left || parts.is_full() {
+        *parts = Parts::new(alloc, seed);
+    }
+}
+
+/// Expands the next state: its next states are found, and its edges are kept. So are the parts of
+/// its steps.
+pub fn expand_next<M: Parted>(
     finder: &Finder<'_, M>,
     trail: &mut Trail<M::State>,
-    expanded: &mut Expanded<M::State, M::More>,
+    expanded: &mut Expanded,
+    parts: &mut Parts<M::Part>,
 ) -> Result<(), Failure<Stop>>
     requires active { IsActive M.behaviour finder.now trail.old }
     requires expanded { AreExpanded (M.behaviour finder.now.machine.now) trail.old.states expanded.old }
-    requires numbering { IsNumbering (M.behaviour finder.now.machine.now) (M.sharing finder.now.machine.now) trail.old.states expanded.old.numbering }
+    requires parts { AreKeptParts (M.steps_of finder.now.machine.now) trail.old.states expanded.old.cells parts.old }
     requires some { length expanded.old.edges.items < length trail.old.states }
     requires no_pairs { trail.old.pairs ≡ [] }
     ensures expanded { OnOk result (AreExpanded (M.behaviour finder.now.machine.now) trail.new.states expanded.new) }
-    ensures numbering { OnOk result (IsNumbering (M.behaviour finder.now.machine.now) (M.sharing finder.now.machine.now) trail.new.states expanded.new.numbering) }
+    ensures parts { OnOk result (AreKeptParts (M.steps_of finder.now.machine.now) trail.new.states expanded.new.cells parts.new) }
     ensures count { OnOk result (length expanded.new.edges.items ≡ length expanded.old.edges.items + 1) }
     ensures advances { OnOk result (Advances M.behaviour finder.now trail.old trail.new) }
     ensures no_pairs { trail.new.pairs ≡ [] }
@@ -66,11 +77,10 @@ pub fn expand_next<M: Based>(
     ensures traced { IfErr result (IfFault (λ _. IsTraced (M.behaviour finder.now.machine.now) trail.new)) }
 {
     let number = expanded.edges.len();
-    let steps = finder.find_steps(trail, &mut expanded.numbering, number)?;
-    let cells = expanded.numbering.contexts.named.cells.as_slice();
-    let edges = steps.edges.as_slice();
-    let sorted = sort_edges(finder.alloc, cells, edges, steps.order.as_slice())?;
-    let rules = rules_of(finder.alloc, edges)?;
+    let edges = finder.find_edges(trail, &mut expanded.cells, parts, number)?;
+    expanded.cells.rank(finder.alloc)?;
+    let sorted = sort_edges(finder.alloc, &expanded.cells, edges.as_slice())?;
+    let rules = rules_of(finder.alloc, edges.as_slice())?;
     expanded.edges.push(sorted)?;
     expanded.rules.push(rules)?;
     Ok(())

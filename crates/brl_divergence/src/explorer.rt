@@ -14,17 +14,17 @@ use crate::expanded::Expanded;
 use crate::found::{FoundSoFar, take_back};
 use brl_closure::{Finder, Origins, PairOrigin, Stop, Texts, Trail};
 use brl_failure::Failure;
-use brl_pairs::{Based, SortedEdge, Splits, cells_of, earlier_splits, splits_of};
+use brl_pairs::{Machine, SortedEdge, Splits, cells_of, earlier_splits, splits_of};
 use std::alloc::AllocError;
 
 /// Explores the splits of a machine whose states are all expanded.
 #[derive(Drop)]
-pub struct Explorer<'a, 'm, M: Based> {
+pub struct Explorer<'a, 'm, M: Machine> {
     pub finder: &'a Finder<'m, M>,
-    pub expanded: &'a Expanded<M::State, M::More>,
+    pub expanded: &'a Expanded,
 }
 
-impl<'a, 'm, M: Based> Explorer<'a, 'm, M> {
+impl<'a, 'm, M: Machine> Explorer<'a, 'm, M> {
     /// Adds the pair into which two steps of a state split, if they do.
     fn find_split(
         &self,
@@ -34,7 +34,7 @@ impl<'a, 'm, M: Based> Explorer<'a, 'm, M> {
         second: &SortedEdge,
     ) -> Result<(), Failure<Stop>>
         requires active { IsActive M.behaviour self.now.finder.now trail.old }
-        requires edges { (rules : ℕ × ℕ) × AreTwoEdges (M.behaviour self.now.finder.now.machine.now) trail.old.states self.now.expanded.now.numbering.contexts.named.cells state first.now second.now rules }
+        requires edges { (rules : ℕ × ℕ) × AreTwoEdges (M.behaviour self.now.finder.now.machine.now) trail.old.states self.now.expanded.now.cells state first.now second.now rules }
         ensures followed { OnOk result ((x y : StepValue M.State) → TakesStep (M.behaviour self.now.finder.now.machine.now) trail.new.states state first.now.place x →
             TakesStep (M.behaviour self.now.finder.now.machine.now) trail.new.states state second.now.place y → AreFollowed trail.new.states trail.new.pairs x y) }
         ensures advances { OnOk result (Advances M.behaviour self.now.finder.now trail.old trail.new) }
@@ -55,7 +55,7 @@ impl<'a, 'm, M: Based> Explorer<'a, 'm, M> {
                 shorter: longer,
             },
         };
-        let cells = self.expanded.numbering.contexts.named.cells.as_slice();
+        let cells = self.expanded.cells.as_slice();
         let lead = cells_of(cells, first);
         let own = cells_of(cells, second);
         self.finder
@@ -72,7 +72,7 @@ impl<'a, 'm, M: Based> Explorer<'a, 'm, M> {
         second: &SortedEdge,
     ) -> Result<(), Failure<Stop>>
         requires explored { IsExplored M.behaviour self.now.finder.now self.now.expanded.now trail.old }
-        requires edges { (rules : ℕ × ℕ) × AreTwoEdges (M.behaviour self.now.finder.now.machine.now) trail.old.states self.now.expanded.now.numbering.contexts.named.cells state first.now second.now rules }
+        requires edges { (rules : ℕ × ℕ) × AreTwoEdges (M.behaviour self.now.finder.now.machine.now) trail.old.states self.now.expanded.now.cells state first.now second.now rules }
         ensures explored { OnOk result (IsExplored M.behaviour self.now.finder.now self.now.expanded.now trail.new) }
         ensures followed { OnOk result ((x y : StepValue M.State) → TakesStep (M.behaviour self.now.finder.now.machine.now) trail.new.states state first.now.place x →
             TakesStep (M.behaviour self.now.finder.now.machine.now) trail.new.states state second.now.place y → AreFollowed trail.new.states trail.new.pairs x y) }
@@ -82,7 +82,7 @@ impl<'a, 'm, M: Based> Explorer<'a, 'm, M> {
         // What follows the pairs before this place is listed already.
         let mut next = trail.pairs.len();
         self.find_split(trail, state, first, second)?;
-        let cells = self.expanded.numbering.contexts.named.cells.as_slice();
+        let cells = self.expanded.cells.as_slice();
         while next < trail.pairs.len() {
             self.finder
                 .walk(trail, cells, self.expanded.edges.as_slice(), next)?;
@@ -98,7 +98,7 @@ impl<'a, 'm, M: Based> Explorer<'a, 'm, M> {
         requires second { IsEdgeOf self.now.expanded.now state second.now }
         requires in_order { first.now.place < second.now.place }
         ensures { (states : List M.State) → AreExpanded (M.behaviour self.now.finder.now.machine.now) states self.now.expanded.now →
-            AreTwoEdges (M.behaviour self.now.finder.now.machine.now) states self.now.expanded.now.numbering.contexts.named.cells state first.now second.now result }
+            AreTwoEdges (M.behaviour self.now.finder.now.machine.now) states self.now.expanded.now.cells state first.now second.now result }
     {
         let rules = self.expanded.rules[state].as_slice();
         (rules[first.place as usize], rules[second.place as usize])
@@ -175,7 +175,7 @@ impl<'a, 'm, M: Based> Explorer<'a, 'm, M> {
         ensures settled { OnOk result ((i : ℕ) → i < second → AreSettledAt (M.behaviour self.now.finder.now.machine.now) found.new state i second) }
         ensures over { IfErr result (IfFault (λ _. IsOver (M.behaviour self.now.finder.now.machine.now) self.now.finder.now.limit found.new)) }
     {
-        let cells = self.expanded.numbering.contexts.named.cells.as_slice();
+        let cells = self.expanded.cells.as_slice();
         let sorted = self.expanded.edges[state].as_slice();
         let earlier = earlier_splits(self.finder.alloc, cells, sorted, splits, second)?;
         let own = sorted[splits.positions[second] as usize];
@@ -198,7 +198,7 @@ impl<'a, 'm, M: Based> Explorer<'a, 'm, M> {
         ensures settled { OnOk result (IsSettledState (M.behaviour self.now.finder.now.machine.now) found.new state) }
         ensures over { IfErr result (IfFault (λ _. IsOver (M.behaviour self.now.finder.now.machine.now) self.now.finder.now.limit found.new)) }
     {
-        let cells = self.expanded.numbering.contexts.named.cells.as_slice();
+        let cells = self.expanded.cells.as_slice();
         let sorted = self.expanded.edges[state].as_slice();
         let count = self.expanded.rules[state].len();
         let splits = splits_of(self.finder.alloc, cells, sorted, count)?;

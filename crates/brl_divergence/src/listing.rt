@@ -11,12 +11,13 @@ ghost use Rattle.brl_failure.specs.Failure.{IfFault};
 ghost use Rattle.brl_progress.specs.Slices.{IfFinished, IfUnfinished};
 
 use crate::divergences::{Divergences, RuleTexts};
-use crate::expanded::{Expanded, expand_next};
+use crate::expanded::{Expanded, expand_next, forget_parts};
 use crate::explorer::Explorer;
 use crate::found::FoundSoFar;
 use brl_closure::{Finder, KnownSteps, Stop, Trail};
 use brl_failure::Failure;
-use brl_pairs::{Based, Body, Machine, Seed};
+use brl_pairs::{Body, Machine, Parted, Seed};
+use brl_parts::Parts;
 use brl_progress::{Progress, Slice, Sliced, Work, run_to_end};
 use std::alloc::{AllocError, Global};
 use std::marker::Model;
@@ -28,15 +29,17 @@ use std::marker::Model;
 ///
 /// A contract sees how many steps are left at most. `list_divergences` runs a listing to its end.
 #[derive(Drop)]
-pub struct Listing<'m, M: Based> {
+pub struct Listing<'m, M: Parted> {
     finder: Finder<'m, M>,
-    expanded: Expanded<M::State, M::More>,
+    expanded: Expanded,
+    /// The parts of steps that have been listed, as long as states are to be expanded.
+    parts: Parts<M::Part>,
     found: FoundSoFar<M::State>,
     /// The number of states whose splits are settled.
     settled: usize,
 }
 
-impl<'m, M: Based> Model for Listing<'m, M> {
+impl<'m, M: Parted> Model for Listing<'m, M> {
     ghost use Rattle.brl_divergence.specs.ListingView.{ListingView};
 
     ghost Value = { ListingView M };
@@ -49,10 +52,10 @@ impl<'m, M: Based> Model for Listing<'m, M> {
       steps_left = steps_left l.finder.limit l.expanded l.settled;
     } };
 
-    ghost invariant = { λ l. IsWorking M.behaviour M.sharing l.finder l.expanded l.found l.settled };
+    ghost invariant = { λ l. IsWorking M.behaviour M.steps_of l.finder l.expanded l.parts l.found l.settled };
 }
 
-impl<'m, M: Based> Listing<'m, M> {
+impl<'m, M: Parted> Listing<'m, M> {
     /// The listing of a machine that has found the start, or its answer. It finds states and pairs
     /// by hashes of this seed, which is to be drawn from all that the machine depends on. Splits
     /// into steps of the pairs of rules that are listed already aren't explored.
@@ -86,13 +89,14 @@ impl<'m, M: Based> Listing<'m, M> {
         Ok(Slice::Unfinished(Listing {
             finder,
             expanded: Expanded::new(alloc, seed),
+            parts: Parts::new(alloc, seed),
             found,
             settled: 0,
         }))
     }
 }
 
-impl<'m, M: Based> Sliced for Listing<'m, M> {
+impl<'m, M: Parted> Sliced for Listing<'m, M> {
     ghost use Rattle.std.specs.Prelude.{ℕ};
     ghost use Rattle.std.proofs.Common.{subst};
     ghost use Rattle.brl_divergence.specs.ListingView.{IsAfter};
@@ -119,13 +123,24 @@ impl<'m, M: Based> Sliced for Listing<'m, M> {
         let Listing {
             finder,
             mut expanded,
+            mut parts,
             mut found,
             mut settled,
         } = self;
-        match run(&finder, &mut expanded, &mut found, &mut settled, steps) {
+        let none_left = expanded.edges.len() >= found.trail.states.len();
+        forget_parts(finder.alloc, finder.seed, none_left, &mut parts);
+        match run(
+            &finder,
+            &mut expanded,
+            &mut parts,
+            &mut found,
+            &mut settled,
+            steps,
+        ) {
             Ok(true) => Ok(Slice::Unfinished(Listing {
                 finder,
                 expanded,
+                parts,
                 found,
                 settled,
             })),
@@ -145,7 +160,7 @@ impl<'m, M: Based> Sliced for Listing<'m, M> {
 /// Lists each pair of rules at which paths of a machine with the same cells diverge, with two
 /// texts, or finds the limit. The seed and what is listed already are as for `Listing::start`.
 /// `watch` hears of the progress before each slice of steps.
-pub fn list_divergences<M: Based, W: Progress>(
+pub fn list_divergences<M: Parted, W: Progress>(
     alloc: Global,
     machine: &M,
     limit: u64,
@@ -163,20 +178,21 @@ pub fn list_divergences<M: Based, W: Progress>(
 }
 
 /// Takes at most this number of steps. False where nothing is left to do.
-fn run<M: Based>(
+fn run<M: Parted>(
     finder: &Finder<'_, M>,
-    expanded: &mut Expanded<M::State, M::More>,
+    expanded: &mut Expanded,
+    parts: &mut Parts<M::Part>,
     found: &mut FoundSoFar<M::State>,
     settled: &mut usize,
     steps: u64,
 ) -> Result<bool, Failure<Stop>>
-    requires working { IsWorking M.behaviour M.sharing finder.now expanded.old found.old settled.old }
-    ensures steps { IfOk result (λ more. OnTrue more (AreSteps M.behaviour M.sharing steps finder.now expanded.old settled.old expanded.new found.new settled.new)) }
+    requires working { IsWorking M.behaviour M.steps_of finder.now expanded.old parts.old found.old settled.old }
+    ensures steps { IfOk result (λ more. OnTrue more (AreSteps M.behaviour M.steps_of steps finder.now expanded.old settled.old expanded.new parts.new found.new settled.new)) }
     ensures done { IfOk result (λ more. OnFalse more (IsDone M.behaviour finder.now expanded.new found.new)) }
     ensures over { IfErr result (IfFault (λ _. IsOver (M.behaviour finder.now.machine.now) finder.now.limit found.new)) }
 {
     for _ in 0..steps {
-        if !step(finder, expanded, found, settled)? {
+        if !step(finder, expanded, parts, found, settled)? {
             return Ok(false);
         }
     }
@@ -185,19 +201,20 @@ fn run<M: Based>(
 
 /// Expands the next state, or where all are expanded settles the splits of the next one. False
 /// where nothing is left to do.
-fn step<M: Based>(
+fn step<M: Parted>(
     finder: &Finder<'_, M>,
-    expanded: &mut Expanded<M::State, M::More>,
+    expanded: &mut Expanded,
+    parts: &mut Parts<M::Part>,
     found: &mut FoundSoFar<M::State>,
     settled: &mut usize,
 ) -> Result<bool, Failure<Stop>>
-    requires working { IsWorking M.behaviour M.sharing finder.now expanded.old found.old settled.old }
-    ensures step { IfOk result (λ more. OnTrue more (IsStep M.behaviour M.sharing finder.now expanded.old settled.old expanded.new found.new settled.new)) }
+    requires working { IsWorking M.behaviour M.steps_of finder.now expanded.old parts.old found.old settled.old }
+    ensures step { IfOk result (λ more. OnTrue more (IsStep M.behaviour M.steps_of finder.now expanded.old settled.old expanded.new parts.new found.new settled.new)) }
     ensures done { IfOk result (λ more. OnFalse more (IsDone M.behaviour finder.now expanded.new found.new)) }
     ensures over { IfErr result (IfFault (λ _. IsOver (M.behaviour finder.now.machine.now) finder.now.limit found.new)) }
 {
     if expanded.edges.len() < found.trail.states.len() {
-        expand_next(finder, &mut found.trail, expanded)?;
+        expand_next(finder, &mut found.trail, expanded, parts)?;
         return Ok(true);
     }
     if *settled < found.trail.states.len() {
@@ -213,8 +230,11 @@ fn step<M: Based>(
 }
 
 /// The whole list, and the states and pairs, where nothing is left to do.
-fn complete<M: Based>(finder: &Finder<'_, M>, found: FoundSoFar<M::State>) -> Divergences<M::State>
-    requires { (expanded : ExpandedValue M.State M.More) × IsDone M.behaviour finder.now expanded found }
+fn complete<M: Machine>(
+    finder: &Finder<'_, M>,
+    found: FoundSoFar<M::State>,
+) -> Divergences<M::State>
+    requires { (expanded : ExpandedValue) × IsDone M.behaviour finder.now expanded found }
     ensures { AreDivergencesOf (M.behaviour finder.now.machine.now) finder.now.limit result }
 {
     let FoundSoFar { trail, list, .. } = found;

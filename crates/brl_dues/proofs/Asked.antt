@@ -23,7 +23,7 @@ use Rattle.brl_rules.specs.Text.{classes_of, context_after_all, has_word_capital
 use Rattle.brl_states.specs.declared.due.Due.{Due}
 use Rattle.brl_states.specs.declared.dues_state.DuesState.{DuesState}
 use Rattle.brl_dues.specs.Capitals.{any_if, further, further_by, is_upper}
-use Rattle.brl_dues.specs.Asking.{asked, told}
+use Rattle.brl_dues.specs.Parts.{asked, told}
 use Rattle.brl_dues.proofs.Alike.{AreAlike}
 
 -- ---- Classes

@@ -17,7 +17,7 @@ use Rattle.std.specs.List.Sorted.{IsStrictlySortedBy}
 use Rattle.brl_states.specs.Order.{due_cmp, in_order}
 use Rattle.brl_dues.specs.Carry.{carry, carry_bar, is_whole, left_of, lefts}
 use Rattle.brl_dues.specs.Contexts.{AreOfBoth, bars, base_of, gate_of, is_bar, meets, more, new_to, opens, owing, owing_if, step_past}
-use Rattle.brl_dues.specs.Asking.{told}
+use Rattle.brl_dues.specs.Parts.{told}
 use Rattle.brl_dues.specs.Steps.{dues_steps, owed}
 use Rattle.brl_dues.proofs.Asked.{asked-alike}
 use Rattle.brl_dues.proofs.Forms.{listed-IsStep}

@@ -33,7 +33,7 @@ abbrev pub listed : Capitals → List Capital
 listed (Kept capitals) = capitals.now
 listed (New capitals) = capitals.items
 
--- whether the table has word capitals, and its capitals if it has
-pub record AreCapitals (t : TableView) (word_capitals : Bool) (kept : List Capital) : Type 0 where
+-- whether the table has word capitals, and its capitals where they are kept
+pub record AreCapitals (t : TableView) (word_capitals keeps : Bool) (kept : List Capital) : Type 0 where
   pub word : word_capitals ≡ has_word_capitals t
-  pub found : word_capitals ≡ true → kept ≡ map (capital_of t) (capitals t)
+  pub found : keeps ≡ true → kept ≡ map (capital_of t) (capitals t)

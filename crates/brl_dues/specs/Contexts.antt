@@ -17,7 +17,7 @@ use Rattle.brl_states.specs.declared.dues_state.DuesState.{DuesState}
 use Rattle.brl_states.specs.DuesContext.{context_of, state_in}
 use Rattle.brl_states.specs.Order.{due_cmp, in_order}
 use Rattle.brl_dues.specs.Letters.{left_past}
-use Rattle.brl_dues.specs.Asking.{asked_context}
+use Rattle.brl_dues.specs.Parts.{asked_context}
 use Rattle.brl_dues.specs.Steps.{dues_steps, with_steps}
 
 -- the base of a state: what steps ask of its context, and no dues

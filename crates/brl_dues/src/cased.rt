@@ -44,6 +44,7 @@ impl<'a> Capitals<'a> {
 pub struct CasedTable<'a> {
     table: &'a Table,
     has_word_capitals: bool,
+    keeps_capitals: bool,
     capitals: Vec<Capital>,
 }
 
@@ -55,22 +56,47 @@ impl<'a> Model for CasedTable<'a> {
 
     ghost view = { λ c. c.table.now };
 
-    ghost invariant = { λ c. AreCapitals c.table.now c.has_word_capitals c.capitals.items };
+    ghost invariant = { λ c. AreCapitals c.table.now c.has_word_capitals c.keeps_capitals c.capitals.items };
 }
 
 impl<'a> CasedTable<'a> {
-    /// A table. It keeps its capitals if it has word capitals, and else allocates no memory.
+    /// A table for steps that begin with any character. It keeps its capitals if it has word
+    /// capitals, and else allocates no memory.
     pub fn new(alloc: Global, table: &'a Table) -> Result<CasedTable<'a>, AllocError>
         ensures { IfOk result (λ cased. cased ≡ table.now) }
     {
-        let has_word_capitals = table.has_word_capitals();
+        CasedTable::with_capitals_if(alloc, table, table.has_word_capitals())
+    }
+
+    /// A table for steps that begin with this character. It keeps its capitals if a run of capitals
+    /// may begin with the character, and else allocates no memory.
+    pub fn for_letter(
+        alloc: Global,
+        table: &'a Table,
+        character: char,
+    ) -> Result<CasedTable<'a>, AllocError>
+        ensures { IfOk result (λ cased. cased ≡ table.now) }
+    {
+        let may_begin = table.has_word_capitals() && is_upper(table, character);
+        CasedTable::with_capitals_if(alloc, table, may_begin)
+    }
+
+    /// A table, which keeps its capitals if this is so.
+    fn with_capitals_if(
+        alloc: Global,
+        table: &'a Table,
+        keeps_capitals: bool,
+    ) -> Result<CasedTable<'a>, AllocError>
+        ensures { IfOk result (λ cased. cased ≡ table.now) }
+    {
         let mut capitals = Vec::new(alloc);
-        if has_word_capitals {
+        if keeps_capitals {
             add_capitals(table, &mut capitals)?;
         }
         Ok(CasedTable {
             table,
-            has_word_capitals,
+            has_word_capitals: table.has_word_capitals(),
+            keeps_capitals,
             capitals,
         })
     }
@@ -153,7 +179,7 @@ impl<'a> CasedTable<'a> {
     pub fn capitals(&self, alloc: Global) -> Result<Capitals<'_>, AllocError>
         ensures { IfOk result (λ found. listed found ≡ map (capital_of self.now) (capitals self.now)) }
     {
-        if self.has_word_capitals {
+        if self.keeps_capitals {
             return Ok(Capitals::Kept(self.capitals.as_slice()));
         }
         let mut capitals = Vec::new(alloc);

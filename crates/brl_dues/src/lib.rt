@@ -14,7 +14,6 @@
 #![tactic(auto)]
 
 mod above;
-mod asking;
 mod carry;
 mod cased;
 mod context_laws;
@@ -23,9 +22,11 @@ mod laws;
 mod letter;
 mod machine;
 mod origin;
+mod parts;
 mod rules_above;
 mod runs;
 mod sharing;
+mod starts;
 mod step;
 mod steps;
 mod walk;
@@ -34,3 +35,4 @@ pub use brl_states::{Due, DueList, DuesState};
 pub use context_laws::contexts_law;
 pub use laws::{dues_law, exact_law, finite_law, gathered_law, step_law};
 pub use machine::Dues;
+pub use parts::DuesPart;

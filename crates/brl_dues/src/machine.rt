@@ -5,11 +5,12 @@ ghost use Rattle.brl_rules.specs.Translation.{translation};
 ghost use Rattle.brl_dues.specs.Due.{met_by_space};
 
 use crate::cased::CasedTable;
-use crate::letter::new_letters_of;
+use crate::letter::{new_letter_of, new_letters_of};
+use crate::parts::{DuesPart, find_parts};
 use crate::sharing::{bar_at, base_of, gate_of, opens, past, with_dues};
-use crate::steps::list_steps;
+use crate::steps::{list_letter_steps, list_steps};
 use brl_cells::Chars;
-use brl_pairs::{Based, Machine, Past, Step};
+use brl_pairs::{Based, Machine, Parted, Past, Step};
 use brl_rules::{Class, Context, Table, choice_laws, holds, translation_laws};
 use brl_states::{Due, DueList, DuesState};
 use std::alloc::{AllocError, Global};
@@ -65,6 +66,29 @@ impl<'a> Machine for Dues<'a> {
 
     fn ends(&self, state: &DuesState) -> bool {
         state.dues.as_slice().iter().all(is_met_by_space)
+    }
+}
+
+impl<'a> Parted for Dues<'a> {
+    ghost use Rattle.brl_dues.specs.Parts.{steps_of_part};
+
+    type Part = DuesPart;
+
+    ghost steps_of = { steps_of_part };
+
+    fn parts(&self, alloc: Global, state: &DuesState) -> Result<Option<Vec<DuesPart>>, AllocError> {
+        Ok(Some(find_parts(alloc, self.table, state)?))
+    }
+
+    fn part_steps(
+        &self,
+        alloc: Global,
+        part: &DuesPart,
+    ) -> Result<Vec<Step<DuesState>>, AllocError> {
+        let table = CasedTable::for_letter(alloc, self.table, part.character)?;
+        let dues = part.state.dues.as_slice();
+        let letter = new_letter_of(alloc, self.table, part.character, dues);
+        list_letter_steps(alloc, &table, &part.state, letter)
     }
 }
 

@@ -11,9 +11,9 @@ ghost use Rattle.brl_dues.specs.Contexts.{base_of as base_in, is_bar, lets_throu
 ghost use Rattle.brl_dues.specs.Letters.{left_past};
 ghost use Rattle.brl_dues.specs.Sharing.{bar_chars, gate_number, opens_number, owing_more, past_bars};
 
-use crate::asking::asked_of;
 use crate::carry::{add, carry, class_of};
 use crate::letter::bars_of;
+use crate::parts::asked_of;
 use brl_cells::Chars;
 use brl_pairs::Past;
 use brl_rules::{Class, Table, holds};
@@ -102,7 +102,7 @@ pub fn past(
     if more.is_empty() {
         return Ok(Past::Same);
     }
-    Ok(Past::More(DueList::in_order(more)?))
+    Ok(Past::More(DueList::in_order(more)))
 }
 
 /// What is left, past these characters, of the bars with these numbers. `None` where one is broken.
@@ -153,5 +153,5 @@ pub fn with_dues(alloc: Global, next: &DuesState, more: &DueList) -> Result<Dues
     let mut dues = copy_dues(alloc, next.dues.as_slice())?;
     let mut others = copy_dues(alloc, more.as_slice())?;
     dues.append(&mut others)?;
-    Ok(DuesState::from_context(next.context(), DueList::in_order(dues)?))
+    Ok(DuesState::from_context(next.context(), DueList::in_order(dues)))
 }

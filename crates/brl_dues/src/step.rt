@@ -125,7 +125,7 @@ fn next_dues(
     )? {
         return Ok(None);
     }
-    Ok(Some(DueList::in_order(found)?))
+    Ok(Some(DueList::in_order(found)))
 }
 
 /// Makes room for the dues of a step that reads one character: each rule above leaves one.

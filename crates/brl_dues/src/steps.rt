@@ -48,6 +48,26 @@ pub fn list_steps<'a>(
     Ok(listed)
 }
 
+/// The steps of a state that begin with this character, which has no rules above yet.
+pub fn list_letter_steps<'a>(
+    alloc: Global,
+    table: &'a CasedTable<'_>,
+    state: &DuesState,
+    mut letter: Letter<'a>,
+) -> Result<Vec<Step<DuesState>>, AllocError>
+    ensures { IfOk result (λ listed. listed.items ≡ steps_found table.now state.now 0 table.now.rules (letter.entry ∷ [])) }
+{
+    let mut listed = Vec::new(alloc);
+    for (number, rule) in table.table().rules_in_rank().iter().enumerate() {
+        if may_take(rule, state.before, &letter) {
+            let number = number as u32;
+            push_taken(alloc, table, state, number, rule, &mut letter, &mut listed)?;
+        }
+    }
+    push_own(alloc, table, state, &letter, &mut listed)?;
+    Ok(listed)
+}
+
 /// Appends the steps of a rule, and adds it to the rules above the remaining ones.
 fn take_rule<'a>(
     alloc: Global,

@@ -15,10 +15,12 @@ pub mod SortedLaws
 pub mod Matching
 pub mod Unmatched
 pub mod Numbered
-pub mod InPlaces
 pub mod SplitsLaws
 pub mod Along
 pub mod ListedLaws
+pub mod Filtered
+mod RankLaws
+pub mod ByNumber
 pub mod SharedLaws
 pub mod OrderLaws
 pub mod Firsts

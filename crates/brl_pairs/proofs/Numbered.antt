@@ -1,12 +1,12 @@
 -- The edges of a state by places and by the numbers of their cells.
-use Rattle.std.proofs.Common.{◌≡◌, ◌⊎◌, ℕ, ◌+◌, ◌<◌, List, inl, inr, length, get_or, refl, set, Some, slice_get, swap, sym, ◌∙◌, ap, subst, arith, Contains, IsPermutation}
+use Rattle.std.proofs.Common.{◌≡◌, ◌⊎◌, ℕ, ◌+◌, ◌<◌, List, [], ◌∷◌, ◌++◌, inl, inr, length, get_or, refl, set, Some, slice_get, swap, sym, ◌∙◌, ap, subst, arith, Contains, IsPermutation}
 use Rattle.std.proofs.lemmas.List.Edits.{swap_is}
 use Rattle.std.proofs.lemmas.Option.{get_or_from_slice_get, slice_get-get_or, slice_get_within}
 use Rattle.std.proofs.lemmas.List.Sorted.{Contains-permutation, IsPermutation-keeps, IsPermutation-sym}
 use Rattle.brl_pairs.specs.Sorted.{AreByNumbers, AreMatches, DoMatch, HaveOwnPlaces, IsAtItsPlace, IsSortedOf, cells_of, is_before, or_none}
 use Rattle.brl_pairs.specs.declared.edge.Edge.{Edge}
 use Rattle.brl_pairs.specs.declared.sorted.SortedEdge.{SortedEdge}
-use Rattle.brl_pairs.proofs.Lists.{inside, same_place, set_cases}
+use Rattle.brl_pairs.proofs.Lists.{inside, push_cases, same_place, set_cases}
 use Rattle.brl_pairs.proofs.Unmatched.{match_or_not}
 
 pub contained : {X : Type 0} (xs : List X) (k : ℕ) (x : X) → slice_get xs k ≡ Some x → Contains xs x
@@ -77,6 +77,44 @@ own_places_swapped l i j i_in j_in own =
 
 pub moved_own_places : (xs ys : List SortedEdge) → IsPermutation xs ys → HaveOwnPlaces xs → HaveOwnPlaces ys
 moved_own_places xs ys moved own = IsPermutation-keeps xs HaveOwnPlaces own own_places_swapped ys moved
+
+-- ---- One edge after the other
+
+-- these are the first edges, each at its own place
+abbrev pub AreNumbered : List (List ℕ) → List Edge → List SortedEdge → Type 0
+AreNumbered cells edges numbered = (k : ℕ) (x : SortedEdge) → slice_get numbered k ≡ Some x → (x.place ≡ k) × IsAtItsPlace cells edges x
+
+pub all_numbered : (cells : List (List ℕ)) (edges : List Edge) (numbered : List SortedEdge) → length numbered ≡ length edges → AreNumbered cells edges numbered → AreByNumbers cells edges numbered
+all_numbered cells edges numbered many h = record {
+  only = λ x is. (let k = place_of numbered x is in (h k.0 x k.1).1);
+  all = λ place e at. (
+      let within : place < length edges = slice_get_within edges place e at in
+      let x = inside numbered place (omega (arith, within, many)) in
+      (x.0, contained numbered place x.0 x.1, (h place x.0 x.1).0));
+}
+
+-- each edge has its own position for its place
+abbrev pub ArePlacedInOrder : List SortedEdge → Type 0
+ArePlacedInOrder numbered = (k : ℕ) (x : SortedEdge) → slice_get numbered k ≡ Some x → x.place ≡ k
+
+pub one_placed : (numbered now : List SortedEdge) (x : SortedEdge) → ArePlacedInOrder numbered → now ≡ numbered ++ x ∷ [] → x.place ≡ length numbered → ArePlacedInOrder now
+one_placed numbered now x h is here k y y_at = elim (push_cases numbered x k y (ap (λ (l : List SortedEdge). slice_get l k) (sym is) ∙ y_at)) [
+  | inl before ↦ h k y before
+  | inr last ↦ ap (λ (z : SortedEdge). z.place) (sym last.1) ∙ here ∙ sym last.0
+]
+
+pub placed_own_places : (numbered : List SortedEdge) → ArePlacedInOrder numbered → HaveOwnPlaces numbered
+placed_own_places numbered h i j x y x_at y_at same = sym (h i x x_at) ∙ same ∙ h j y y_at
+
+module _ (old new : List (List ℕ)) (stays : (k : ℕ) (own : List ℕ) → slice_get old k ≡ Some own → slice_get new k ≡ Some own) where
+  pub one_numbered : (edges : List Edge) (numbered now : List SortedEdge) (e : Edge) (x : SortedEdge) → AreNumbered old edges numbered → now ≡ numbered ++ x ∷ [] → slice_get edges (length numbered) ≡ Some e
+      → x.place ≡ length numbered → slice_get new x.cells ≡ Some e.cells → x.next ≡ e.next → AreNumbered new edges now
+  one_numbered edges numbered now e x h is at here cells next k y y_at =
+      elim (push_cases numbered x k y (ap (λ (l : List SortedEdge). slice_get l k) (sym is) ∙ y_at)) [
+        | inl before ↦ (let z = h k y before in (z.0, still_at_place old new stays edges y z.1))
+        | inr last ↦ subst (λ (z : SortedEdge). (z.place ≡ k) × IsAtItsPlace new edges z) last.1
+            (here ∙ sym last.0, record { edge = e; at = ap (slice_get edges) here ∙ at; same_cells = cells; same_next = next })
+      ]
 
 -- ---- Looking edges up
 

@@ -4,11 +4,11 @@ use Rattle.std.proofs.lemmas.Bool.{cases_eq, eq-eqb, ne_eqb}
 use Rattle.std.proofs.lemmas.List.Sorted.{Contains-permutation, IsPermutation-sym}
 use Rattle.std.proofs.lemmas.Option.{slice_get-get_or, slice_get_within}
 use Rattle.brl_pairs.specs.Shared.{AreUnsharedSplits, IsLikeAt, IsTwoOf, IsUnsharedSplit}
-use Rattle.brl_pairs.specs.Sorted.{AreThose, DoMatch, cells_of}
+use Rattle.brl_pairs.specs.Splits.{AreOthers, IsOther}
 use Rattle.brl_pairs.specs.declared.shared.TwoPlaces.{TwoPlaces}
 use Rattle.brl_pairs.specs.declared.sorted.SortedEdge.{SortedEdge}
 use Rattle.brl_pairs.proofs.Lists.{inside, length_push, push_cases, same_place}
-use Rattle.brl_pairs.proofs.Numbered.{contained, place_of}
+use Rattle.brl_pairs.proofs.Numbered.{contained}
 use Rattle.brl_pairs.proofs.Unmatched.{match_back}
 
 -- the first edges are shared or not, and their own ones are before this position
@@ -118,10 +118,9 @@ pub shared_at : (shared : List Bool) (k : ℕ) (b : Bool) → k < length shared 
 shared_at shared k b within is = slice_get-get_or shared k false within ∙ ap (λ (t : Bool). Some t) is
 
 -- the splits so far are those that have an edge before this position which isn't shared
-pub record AreSplitsBefore (cells : List (List ℕ)) (sorted : List SortedEdge) (shared : List Bool) (end : ℕ) (splits : List TwoPlaces) : Type 0 where
+pub record AreSplitsBefore (cells : List (List ℕ)) (sorted : List SortedEdge) (shared : List Bool) (limit end : ℕ) (splits : List TwoPlaces) : Type 0 where
   pub only : (split : TwoPlaces) → Contains splits split → IsUnsharedSplit cells sorted shared split
-  pub all : (k : ℕ) (y x : SortedEdge) (split : TwoPlaces) → k < end → slice_get shared k ≡ Some false → slice_get sorted k ≡ Some y → Contains sorted x → DoMatch (cells_of cells y) (cells_of cells x)
-      → IsTwoOf y.place x.place split → Contains splits split
+  pub all : (k : ℕ) (y x : SortedEdge) (split : TwoPlaces) → k < end → slice_get shared k ≡ Some false → slice_get sorted k ≡ Some y → IsOther cells sorted k limit y x → IsTwoOf y.place x.place split → Contains splits split
 
 -- the splits of an edge with others are added
 pub record AreSplitsAdded (y : SortedEdge) (found : List SortedEdge) (old new : List TwoPlaces) : Type 0 where
@@ -129,43 +128,40 @@ pub record AreSplitsAdded (y : SortedEdge) (found : List SortedEdge) (old new : 
   pub kept : (split : TwoPlaces) → Contains old split → Contains new split
   pub added : (x : SortedEdge) (split : TwoPlaces) → Contains found x → IsTwoOf y.place x.place split → Contains new split
 
-module _ (cells : List (List ℕ)) (sorted : List SortedEdge) (shared : List Bool) where
+module _ (cells : List (List ℕ)) (sorted : List SortedEdge) (shared : List Bool) (limit : ℕ) where
   -- two edges that match are such a split if one of them isn't shared
-  split_of_two : (k : ℕ) (y x : SortedEdge) (split : TwoPlaces) → slice_get shared k ≡ Some false → slice_get sorted k ≡ Some y → Contains sorted x → DoMatch (cells_of cells y) (cells_of cells x)
-      → IsTwoOf y.place x.place split → IsUnsharedSplit cells sorted shared split
-  split_of_two k y x split alone y_at is match two =
-      let other = place_of sorted x is in
-      elim two.1 [
-        | inl straight ↦ record {
-          k = k;
-          l = other.0;
-          first = y;
-          second = x;
-          first_at = y_at;
-          second_at = other.1;
-          first_place = sym straight.0;
-          second_place = sym straight.1;
-          in_order = two.0;
-          match = match;
-          unshared = inl alone;
-        }
-        | inr crossed ↦ record {
-          k = other.0;
-          l = k;
-          first = x;
-          second = y;
-          first_at = other.1;
-          second_at = y_at;
-          first_place = sym crossed.0;
-          second_place = sym crossed.1;
-          in_order = two.0;
-          match = match_back _ _ match;
-          unshared = inr alone;
-        }
-      ]
+  split_of_two : (k : ℕ) (y x : SortedEdge) (split : TwoPlaces) → slice_get shared k ≡ Some false → slice_get sorted k ≡ Some y → IsOther cells sorted k limit y x → IsTwoOf y.place x.place split → IsUnsharedSplit cells sorted shared split
+  split_of_two k y x split alone y_at is two = elim two.1 [
+    | inl straight ↦ record {
+      k = k;
+      l = is.position;
+      first = y;
+      second = x;
+      first_at = y_at;
+      second_at = is.at;
+      first_place = sym straight.0;
+      second_place = sym straight.1;
+      in_order = two.0;
+      match = is.match;
+      unshared = inl alone;
+    }
+    | inr crossed ↦ record {
+      k = is.position;
+      l = k;
+      first = x;
+      second = y;
+      first_at = is.at;
+      second_at = y_at;
+      first_place = sym crossed.0;
+      second_place = sym crossed.1;
+      in_order = two.0;
+      match = match_back _ _ is.match;
+      unshared = inr alone;
+    }
+  ]
 
   -- a shared edge adds no splits
-  pub shared_passed : (end : ℕ) (splits : List TwoPlaces) → slice_get shared end ≡ Some true → AreSplitsBefore cells sorted shared end splits → AreSplitsBefore cells sorted shared (end + 1) splits
+  pub shared_passed : (end : ℕ) (splits : List TwoPlaces) → slice_get shared end ≡ Some true → AreSplitsBefore cells sorted shared limit end splits → AreSplitsBefore cells sorted shared limit (end + 1) splits
   shared_passed end splits is h = record {
     only = h.only;
     all = λ k y x split less alone. elim (cases_eq k end) [
@@ -175,34 +171,44 @@ module _ (cells : List (List ℕ)) (sorted : List SortedEdge) (shared : List Boo
   }
 
   -- an edge that isn't shared adds its splits with all others
-  pub splits_more : (end : ℕ) (y : SortedEdge) (found : List SortedEdge) (old new : List TwoPlaces) → slice_get shared end ≡ Some false → slice_get sorted end ≡ Some y → AreThose (DoMatch (cells_of cells y)) cells sorted found
-      → AreSplitsAdded y found old new → AreSplitsBefore cells sorted shared end old → AreSplitsBefore cells sorted shared (end + 1) new
+  pub splits_more : (end : ℕ) (y : SortedEdge) (found : List SortedEdge) (old new : List TwoPlaces) → slice_get shared end ≡ Some false → slice_get sorted end ≡ Some y → AreOthers cells sorted end limit y found
+      → AreSplitsAdded y found old new → AreSplitsBefore cells sorted shared limit end old → AreSplitsBefore cells sorted shared limit (end + 1) new
   splits_more end y found old new alone y_at are more h = record {
     only = λ split there. elim (more.only split there) [
       | inl was ↦ h.only split was
-      | inr is ↦ (let x = are.only is.0 is.1 in split_of_two end y is.0 split alone y_at x.0 x.1 is.2)
+      | inr is ↦ split_of_two end y is.0 split alone y_at (are.only is.0 is.1) is.2
     ];
-    all = λ k z x split less z_alone z_at is match two. elim (cases_eq k end) [
-      | inl here ↦ here_too k z x split here z_at is match two
-      | inr other ↦ more.kept split (h.all k z x split (omega (arith, less, other)) z_alone z_at is match two)
+    all = λ k z x split less z_alone z_at is two. elim (cases_eq k end) [
+      | inl here ↦ here_too k z x split here z_at is two
+      | inr other ↦ more.kept split (h.all k z x split (omega (arith, less, other)) z_alone z_at is two)
     ];
   }
     where
-      here_too : (k : ℕ) (z x : SortedEdge) (split : TwoPlaces) → k ≡ end → slice_get sorted k ≡ Some z → Contains sorted x → DoMatch (cells_of cells z) (cells_of cells x) → IsTwoOf z.place x.place split → Contains new split
-      here_too k z x split here z_at is match two =
+      here_too : (k : ℕ) (z x : SortedEdge) (split : TwoPlaces) → k ≡ end → slice_get sorted k ≡ Some z → IsOther cells sorted k limit z x → IsTwoOf z.place x.place split → Contains new split
+      here_too k z x split here z_at is two =
           let same : z ≡ y = same_place sorted end z y (ap (slice_get sorted) (sym here) ∙ z_at) y_at in
-          more.added x split (are.all x is (subst (λ (w : SortedEdge). DoMatch (cells_of cells w) (cells_of cells x)) same match))
+          more.added x split (are.all x (subst (λ (w : SortedEdge). IsOther cells sorted end limit w x) same (subst (λ (n : ℕ). IsOther cells sorted n limit z x) here is)))
           (subst (λ (w : SortedEdge). IsTwoOf w.place x.place split) same two)
 
   -- all positions have been gone through, and the splits are in another order
-  module _ (count : length shared ≡ length sorted) (splits ordered : List TwoPlaces) (moved : IsPermutation splits ordered) (h : AreSplitsBefore cells sorted shared (length sorted) splits) where
+  module _ (places : (x : SortedEdge) → Contains sorted x → x.place < limit) (count : length shared ≡ length sorted) (splits ordered : List TwoPlaces) (moved : IsPermutation splits ordered)
+      (h : AreSplitsBefore cells sorted shared limit (length sorted) splits) where
+    -- the edges of a split are at two positions
+    two_positions : (split : TwoPlaces) (is : IsUnsharedSplit cells sorted shared split) → is.l ≢ is.k
+    two_positions split is e =
+        let same : is.first ≡ is.second = same_place sorted is.k is.first is.second is.first_at (ap (slice_get sorted) (sym e) ∙ is.second_at) in
+        let place = ap (λ (z : SortedEdge). z.place) same in
+        omega (arith, place, is.first_place, is.second_place, is.in_order)
+
     -- a split is found at the position of its edge that isn't shared
     every_split : (split : TwoPlaces) → IsUnsharedSplit cells sorted shared split → Contains splits split
     every_split split is = elim is.unshared [
       | inl alone ↦ h.all is.k is.first is.second split (slice_get_within sorted is.k is.first is.first_at) alone is.first_at
-          (contained sorted is.l is.second is.second_at) is.match (is.in_order, inl (sym is.first_place, sym is.second_place))
+          (record { position = is.l; apart = two_positions split is; at = is.second_at; match = is.match; before = places is.second (contained sorted is.l is.second is.second_at) })
+          (is.in_order, inl (sym is.first_place, sym is.second_place))
       | inr alone ↦ h.all is.l is.second is.first split (slice_get_within sorted is.l is.second is.second_at) alone is.second_at
-          (contained sorted is.k is.first is.first_at) (match_back _ _ is.match) (is.in_order, inr (sym is.first_place, sym is.second_place))
+          (record { position = is.k; apart = λ e. two_positions split is (sym e); at = is.first_at; match = match_back _ _ is.match; before = places is.first (contained sorted is.k is.first is.first_at) })
+          (is.in_order, inr (sym is.first_place, sym is.second_place))
     ]
 
     pub all_splits : AreUnsharedSplits cells sorted shared ordered

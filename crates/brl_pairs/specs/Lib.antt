@@ -13,9 +13,11 @@ pub mod Sets
 pub mod Edges
 pub mod NumberPairs
 pub mod Sorted
-pub mod Places
+pub mod Ranks
+pub mod Grouped
 pub mod Splits
 pub mod Shared
+pub mod Parted
 pub mod Order
 pub mod Based
 pub mod Listed

@@ -12,8 +12,8 @@ pub struct Edge {
     pub next: u32,
 }
 
-/// A step by numbers, its cells too. The edges of a state are in the order in which its steps are
-/// listed.
+/// A step by numbers, its cells too. The edges of a state, or of a part of its steps, are in the
+/// order in which the steps are listed.
 #[derive(Clone, Copy)]
 pub struct ListedEdge {
     /// The number of the rule that the step applies.

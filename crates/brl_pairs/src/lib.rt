@@ -13,7 +13,8 @@
 //!   are compared.
 //! - The edges of a state are sorted by their cells, which `KeptCells` has once each. `matches`
 //!   looks up those that a lead can follow, and `earlier_splits` those with which an edge splits;
-//!   `unshared_splits` leaves out those of edges that are shared with another state.
+//!   `unshared_splits` leaves out those of edges that are shared with another state. `by_number`
+//!   puts elements in the order of numbers without comparing them.
 //! - `Based` is a machine whose states share the steps of a base, but for some. An `Order` looks up
 //!   which: the sequences that begin a key, or begin with it.
 //!
@@ -26,6 +27,7 @@ mod body;
 mod edge;
 mod edge_laws;
 mod excused;
+mod grouped;
 mod kept_cells;
 mod key;
 mod laws;
@@ -34,7 +36,7 @@ mod machine;
 mod members;
 mod number_pairs;
 mod order;
-mod places;
+mod parted;
 mod rule_pairs;
 mod seed;
 mod sequence;
@@ -49,6 +51,7 @@ pub use body::Body;
 pub use edge::{Edge, ListedEdge};
 pub use edge_laws::{edges_law, unmatched_law};
 pub use excused::Excused;
+pub use grouped::by_number;
 pub use kept_cells::KeptCells;
 pub use key::Key;
 pub use laws::{
@@ -61,7 +64,7 @@ pub use machine::Machine;
 pub use members::Members;
 pub use number_pairs::{is_missing, is_there, is_there_swapped};
 pub use order::{Around, Order};
-pub use places::{places_below, places_through};
+pub use parted::Parted;
 pub use rule_pairs::RulePairs;
 pub use seed::{Seed, SeededHasher};
 pub use sequence::Sequence;

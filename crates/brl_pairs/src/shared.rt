@@ -6,7 +6,9 @@ ghost use Rattle.brl_pairs.specs.Sorted.{AreAscending};
 ghost use Rattle.brl_pairs.specs.declared.shared.TwoPlaces.{TwoPlaces as TwoValue};
 ghost use Rattle.brl_pairs.specs.declared.sorted.SortedEdge.{SortedEdge as SortedValue};
 
-use crate::sorted::{SortedEdge, cells_of, compare_cells, find_matches};
+use crate::kept_cells::KeptCells;
+use crate::sorted::SortedEdge;
+use crate::splits::{shorter_of, splits_at};
 use brl_cells::Cells;
 use std::alloc::{AllocError, Global};
 use std::cmp::Reverse;
@@ -23,7 +25,7 @@ pub struct TwoPlaces {
 /// the same cells some may be passed over.
 pub fn shared_with(
     alloc: Global,
-    cells: &[Cells],
+    kept: &KeptCells,
     sorted: &[SortedEdge],
     others: &[SortedEdge],
 ) -> Result<Vec<bool>, AllocError>
@@ -32,7 +34,7 @@ pub fn shared_with(
     let mut shared = Vec::with_capacity(alloc, sorted.len())?;
     let mut next = 0usize;
     for edge in sorted {
-        next = pass_before(cells, edge, others, next);
+        next = pass_before(kept, edge, others, next);
         let is_shared = is_like_at(edge, others, next);
         if is_shared {
             next += 1;
@@ -43,14 +45,14 @@ pub fn shared_with(
 }
 
 /// The first position from this one on at which the edge's cells don't come after the other ones.
-fn pass_before(cells: &[Cells], edge: &SortedEdge, others: &[SortedEdge], from: usize) -> usize
+fn pass_before(kept: &KeptCells, edge: &SortedEdge, others: &[SortedEdge], from: usize) -> usize
     requires { from ≤ length others.now }
     ensures from { from ≤ result }
     ensures within { result ≤ length others.now }
     ensures same { (other : SortedValue) → slice_get others.now from ≡ Some other → other.cells ≡ edge.now.cells → result ≡ from }
 {
     let mut next = from;
-    while next < others.len() && comes_before(cells, &others[next], edge) {
+    while next < others.len() && comes_before(kept, &others[next], edge) {
         next += 1;
     }
     next
@@ -58,10 +60,10 @@ fn pass_before(cells: &[Cells], edge: &SortedEdge, others: &[SortedEdge], from: 
 
 /// Whether the cells of the first edge are other ones than those of the second, and come before
 /// them.
-fn comes_before(cells: &[Cells], one: &SortedEdge, other: &SortedEdge) -> bool
+fn comes_before(kept: &KeptCells, one: &SortedEdge, other: &SortedEdge) -> bool
     ensures { one.now.cells ≡ other.now.cells → IsTrue result → ⊥ }
 {
-    one.cells != other.cells && compare_cells(cells_of(cells, one), cells_of(cells, other)).is_lt()
+    one.cells != other.cells && kept.compare(one.cells, other.cells).is_lt()
 }
 
 /// Whether the edge at this position, if there is one, has the same cells and the same next state.
@@ -84,24 +86,26 @@ pub fn count_unshared(shared: &[bool]) -> usize
 
 /// The splits that have an edge which isn't shared. They ascend by the place of their second edge,
 /// and those with one second edge descend by the place of the first. A split of two edges that
-/// aren't shared is there twice. The edges are in the order of their cells, and `shared` says of
-/// each whether it is shared.
+/// aren't shared is there twice. The edges are in the order of their cells, `shared` says of each
+/// whether it is shared, and all places are below `limit`.
 pub fn unshared_splits(
     alloc: Global,
     cells: &[Cells],
     sorted: &[SortedEdge],
     shared: &[bool],
+    limit: u32,
 ) -> Result<Vec<TwoPlaces>, AllocError>
     requires ascending { AreAscending cells.now sorted.now }
+    requires places { (x : SortedValue) → Contains sorted.now x → x.place < limit }
     requires count { length shared.now ≡ length sorted.now }
     ensures { IfOk result (λ splits. AreUnsharedSplits cells.now sorted.now shared.now splits.items) }
 {
+    let shorter = shorter_of(alloc, cells, sorted)?;
     let mut splits = Vec::new(alloc);
     for position in 0..sorted.len() {
         if !shared[position] {
-            let edge = sorted[position];
-            let found = find_matches(alloc, cells, sorted, cells_of(cells, &edge))?;
-            push_splits(edge.place, found.as_slice(), &mut splits)?;
+            let found = splits_at(alloc, cells, sorted, shorter.as_slice(), position, limit)?;
+            push_splits(sorted[position].place, found.as_slice(), &mut splits)?;
         }
     }
     splits.sort_unstable_by_key(|split| (split.second, Reverse(split.first)));

@@ -1,7 +1,6 @@
 //! Steps of a machine, and pairs of its runs.
 use crate::Key;
 use brl_cells::{Cells, Chars};
-use std::alloc::{AllocError, Global};
 
 /// A step of a machine.
 #[derive(Debug, Drop)]
@@ -30,12 +29,4 @@ impl<S: Key> Key for Pair<S> {
     ghost use Rattle.brl_pairs.specs.Same.{same_pairs};
 
     ghost same = { same_pairs S.eq S.same };
-
-    fn copy(&self, alloc: Global) -> Result<Pair<S>, AllocError> {
-        Ok(Pair {
-            ahead: self.ahead.copy(alloc)?,
-            behind: self.behind.copy(alloc)?,
-            lead: Cells::from_slice(alloc, self.lead.as_slice())?,
-        })
-    }
 }

@@ -1,5 +1,5 @@
 //! The states of a dues machine.
-ghost use Rattle.std.specs.Prelude.{◌≡◌};
+ghost use Rattle.std.specs.Prelude.{◌≡◌, IfOk};
 ghost use Rattle.brl_states.specs.DuesContext.{context_of, state_in};
 
 use crate::DueList;
@@ -24,11 +24,6 @@ impl Key for DuesState {
     ghost use Rattle.brl_states.specs.SameDuesState.{same_states};
 
     ghost same = { same_states };
-
-    fn copy(&self, alloc: Global) -> Result<DuesState, AllocError> {
-        let dues = self.dues.copy(alloc)?;
-        Ok(DuesState::from_context(self.context(), dues))
-    }
 }
 
 impl DuesState {
@@ -53,5 +48,13 @@ impl DuesState {
             numeric: self.numeric,
             run: self.run,
         }
+    }
+
+    /// An equal state. `AllocError` if memory runs out.
+    pub fn copy(&self, alloc: Global) -> Result<DuesState, AllocError>
+        ensures { IfOk result (λ state. state ≡ self.now) }
+    {
+        let dues = self.dues.copy(alloc)?;
+        Ok(DuesState::from_context(self.context(), dues))
     }
 }

@@ -8,74 +8,65 @@ ghost use Rattle.brl_states.specs.SameDues.{dues_Decides, dues_equiv};
 ghost use Rattle.brl_states.specs.Order.{AreDues, in_order as in_order_of, is_proper};
 
 use crate::Due;
-use crate::due::compare_dues;
+use crate::due::{compare_dues, copy_dues};
 use brl_pairs::Key;
 use std::alloc::{AllocError, Global};
 use std::hash::{Hash, Hasher};
 use std::marker::Model;
-use std::rc::RcSlice;
 
 /// A list of dues in order, needs before bars, without repeats. It has no need of `Any`, and no bar
-/// without characters. Copies share the dues. A contract sees the list.
+/// without characters. A contract sees the list.
 #[derive(Debug, Drop)]
 pub struct DueList {
-    /// `None` where there are no dues, so that these take no memory.
-    items: Option<RcSlice<Due>>,
+    items: Vec<Due>,
 }
 
 impl Model for DueList {
-    ghost use Rattle.std.specs.Prelude.{List, []};
-    ghost use Rattle.std.specs.Option.{option_map_or};
-    ghost use Rattle.std.specs.Rc.{rc_slice_items};
+    ghost use Rattle.std.specs.Prelude.{List};
     ghost use Rattle.brl_states.specs.declared.due.Due.{Due as DueValue};
     ghost use Rattle.brl_states.specs.Order.{AreDues};
 
     ghost Value = { List DueValue };
 
-    ghost view = { λ d. option_map_or rc_slice_items d.items [] };
+    ghost view = { λ d. d.items.items };
 
-    ghost invariant = { λ d. AreDues (option_map_or rc_slice_items d.items []) };
+    ghost invariant = { λ d. AreDues d.items.items };
 }
 
 impl DueList {
     /// No dues. No memory is allocated.
-    pub fn new(_alloc: Global) -> DueList
+    pub fn new(alloc: Global) -> DueList
         ensures { result ≡ [] }
     {
-        DueList { items: None }
-    }
-
-    /// The dues of a `Vec` that is in order. The room that it has to spare is given back.
-    /// `AllocError` if memory runs out.
-    pub fn from_vec(items: Vec<Due>) -> Result<DueList, AllocError>
-        requires { AreDues items.items }
-        ensures { IfOk result (λ dues. dues ≡ items.items) }
-    {
-        if items.is_empty() {
-            return Ok(DueList { items: None });
+        DueList {
+            items: Vec::new(alloc),
         }
-        let mut items = items;
-        items.shrink_to_fit();
-        let items = RcSlice::from_vec(items)?;
-        Ok(DueList { items: Some(items) })
     }
 
-    /// Dues put in order, without repeats. `AllocError` if memory runs out.
-    pub fn in_order(found: Vec<Due>) -> Result<DueList, AllocError>
+    /// The dues of a `Vec` that is in order. No memory is allocated.
+    pub fn from_vec(items: Vec<Due>) -> DueList
+        requires { AreDues items.items }
+        ensures { result ≡ items.items }
+    {
+        DueList { items }
+    }
+
+    /// Dues put in order, without repeats. No memory is allocated.
+    pub fn in_order(found: Vec<Due>) -> DueList
         requires { All (λ due. IsTrue (is_proper due)) found.items }
-        ensures { IfOk result (λ dues. dues ≡ in_order_of found.items) }
+        ensures { result ≡ in_order_of found.items }
     {
         let mut items = found;
         items.sort_unstable_by(|a, b| compare_dues(a, b));
         items.dedup();
-        DueList::from_vec(items)
+        DueList { items }
     }
 
     /// The number of dues.
     pub fn len(&self) -> usize
         ensures { result ≡ length self.now }
     {
-        self.as_slice().len()
+        self.items.len()
     }
 
     /// The dues, each of them proper, ascending and without repeats.
@@ -83,10 +74,15 @@ impl DueList {
         ensures dues { result.now ≡ self.now }
         ensures kept { AreDues self.now }
     {
-        match &self.items {
-            Some(items) => items.as_slice(),
-            None => &[],
-        }
+        self.items.as_slice()
+    }
+
+    /// An equal list. `AllocError` if memory runs out.
+    pub fn copy(&self, alloc: Global) -> Result<DueList, AllocError>
+        ensures { IfOk result (λ dues. dues ≡ self.now) }
+    {
+        let items = copy_dues(alloc, self.items.as_slice())?;
+        Ok(DueList { items })
     }
 }
 
@@ -96,7 +92,7 @@ impl PartialEq for DueList {
     ghost laws = { partial_equiv_from_equiv (lists_equiv dues_equiv) };
 
     fn eq(&self, other: &DueList) -> bool {
-        self.as_slice() == other.as_slice()
+        self.items.as_slice() == other.items.as_slice()
     }
 }
 
@@ -108,12 +104,6 @@ impl Key for DueList {
     ghost use Rattle.brl_states.specs.SameDues.{same_lists};
 
     ghost same = { same_lists };
-
-    /// A list that shares the dues. It allocates no memory.
-    fn copy(&self, _alloc: Global) -> Result<DueList, AllocError> {
-        let items = self.items.clone()?;
-        Ok(DueList { items })
-    }
 }
 
 impl Hash for DueList {
@@ -122,6 +112,6 @@ impl Hash for DueList {
     ghost respects_eq = { (items_Alike (same_Alike ⟦<Due as Hash>⟧.hash_input dues_Decides)).fed };
 
     fn hash<H: Hasher>(&self, state: &mut H) {
-        self.as_slice().hash(state);
+        self.items.as_slice().hash(state);
     }
 }

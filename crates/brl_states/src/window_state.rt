@@ -1,5 +1,5 @@
 //! The states of a window machine.
-ghost use Rattle.std.specs.Prelude.{◌≡◌};
+ghost use Rattle.std.specs.Prelude.{◌≡◌, IfOk};
 ghost use Rattle.brl_states.specs.WindowContext.{context_of, state_in};
 
 use brl_cells::Chars;
@@ -26,11 +26,6 @@ impl Key for WindowState {
     ghost use Rattle.brl_states.specs.SameWindowState.{same_states};
 
     ghost same = { same_states };
-
-    fn copy(&self, alloc: Global) -> Result<WindowState, AllocError> {
-        let coming = self.coming.copy(alloc)?;
-        Ok(WindowState::from_context(self.context(), self.ended, coming))
-    }
 }
 
 impl WindowState {
@@ -57,5 +52,13 @@ impl WindowState {
             numeric: self.numeric,
             run: self.run,
         }
+    }
+
+    /// An equal state. `AllocError` if memory runs out.
+    pub fn copy(&self, alloc: Global) -> Result<WindowState, AllocError>
+        ensures { IfOk result (λ state. state ≡ self.now) }
+    {
+        let coming = self.coming.copy(alloc)?;
+        Ok(WindowState::from_context(self.context(), self.ended, coming))
     }
 }

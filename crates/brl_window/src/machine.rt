@@ -6,7 +6,7 @@ ghost use Rattle.brl_window.specs.Width.{start_moves};
 
 use crate::steps::{find_steps, longest_rule, sort_steps};
 use brl_cells::Chars;
-use brl_pairs::{Based, Machine, Past, Step};
+use brl_pairs::{Based, Machine, Parted, Past, Step};
 use brl_rules::{Context, Table, choice_laws, translation_laws};
 use brl_states::WindowState;
 use std::alloc::{AllocError, Global};
@@ -99,6 +99,27 @@ impl<'a> Machine for Window<'a> {
 
     fn ends(&self, state: &WindowState) -> bool {
         state.coming.len() == 0
+    }
+}
+
+/// It says of no state of which parts its steps are made.
+impl<'a> Parted for Window<'a> {
+    ghost use Rattle.std.specs.Prelude.{[]};
+
+    type Part = bool;
+
+    ghost steps_of = { λ w part. [] };
+
+    fn parts(&self, _alloc: Global, _state: &WindowState) -> Result<Option<Vec<bool>>, AllocError> {
+        Ok(None)
+    }
+
+    fn part_steps(
+        &self,
+        alloc: Global,
+        _part: &bool,
+    ) -> Result<Vec<Step<WindowState>>, AllocError> {
+        Ok(Vec::new(alloc))
     }
 }
 

@@ -4,7 +4,7 @@ ghost use Rattle.brl_without.specs.Without.{steps_without as listed_without};
 
 use crate::LeftOut;
 use brl_cells::Chars;
-use brl_pairs::{Based, Key, Machine, Past, Step};
+use brl_pairs::{Based, Key, Machine, Parted, Past, Step};
 use std::alloc::{AllocError, Global};
 use std::marker::Model;
 
@@ -52,6 +52,24 @@ impl<'m, M: Machine> Machine for Without<'m, M> {
 
     fn ends(&self, state: &M::State) -> bool {
         self.machine.ends(state)
+    }
+}
+
+/// Its parts are those of the machine, without the steps that read one of the characters.
+impl<'m, M: Parted> Parted for Without<'m, M> {
+    ghost use Rattle.brl_without.specs.Without.{steps_without};
+
+    type Part = M::Part;
+
+    ghost steps_of = { λ w part. steps_without w.left_out (M.steps_of w.machine part) };
+
+    fn parts(&self, alloc: Global, state: &M::State) -> Result<Option<Vec<M::Part>>, AllocError> {
+        self.machine.parts(alloc, state)
+    }
+
+    fn part_steps(&self, alloc: Global, part: &M::Part) -> Result<Vec<Step<M::State>>, AllocError> {
+        let steps = self.machine.part_steps(alloc, part)?;
+        Ok(steps_without(self.left_out, steps))
     }
 }
 

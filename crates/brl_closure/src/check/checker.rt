@@ -11,9 +11,9 @@ ghost use Rattle.brl_pairs.specs.Runs.{IsUnambiguous, KeepsLaws};
 use crate::AcceptFault;
 use crate::check::missing::has_two_ends_at;
 use crate::check::pass::find_missing;
-use brl_contexts::Whole;
 use brl_failure::Failure;
-use brl_pairs::{Based, Body, Excused, Machine, numbered_exchange_law, numbered_sets_law};
+use brl_pairs::{Body, Excused, Machine, Parted, numbered_exchange_law, numbered_sets_law};
+use brl_parts::Whole;
 use brl_progress::{NoProgress, Progress};
 use std::alloc::Global;
 
@@ -25,7 +25,7 @@ pub struct Accepted {
 }
 
 /// Checks that no state, no split that isn't excused, and no pair is missing.
-fn check_missing<M: Based, W: Progress>(
+fn check_missing<M: Parted, W: Progress>(
     alloc: Global,
     machine: &M,
     excused: &Excused,
@@ -79,7 +79,7 @@ fn check_ends<M: Machine>(
 }
 
 /// Checks that the states and pairs are closed, but for splits that are excused.
-fn check<M: Based, W: Progress>(
+fn check<M: Parted, W: Progress>(
     alloc: Global,
     machine: &M,
     excused: &Excused,
@@ -132,9 +132,9 @@ pub fn accept<M: Machine>(
 ///
 /// Otherwise the fault is the first one that applies, as for `accept`; `SplitMissing` names the
 /// least split that is neither listed nor excused. `watch` hears of the progress after each state.
-/// The steps of each base are listed once. Bases, states and cells are found by hashes of the seed
-/// of the body's pairs.
-pub fn accept_up_to<M: Based, W: Progress>(
+/// The parts of the machine's steps are listed once each. They and their cells are found by hashes
+/// of the seed of the body's pairs.
+pub fn accept_up_to<M: Parted, W: Progress>(
     alloc: Global,
     machine: &M,
     excused: &Excused,

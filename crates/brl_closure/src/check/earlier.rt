@@ -4,7 +4,7 @@ ghost use Rattle.brl_closure.specs.Passed.{ArePassed, IsPassed};
 ghost use Rattle.brl_pairs.specs.Body.{NumberPair};
 
 use crate::check::sorted::Sorted;
-use crate::nearest::Nearest;
+use crate::last_origins::LastOrigins;
 use brl_pairs::SortedEdge;
 use std::alloc::{AllocError, Global};
 
@@ -19,8 +19,8 @@ pub struct EarlierEdges {
     pub lists: Vec<Vec<SortedEdge>>,
     /// How many edges are kept.
     kept: usize,
-    /// Which list came last in each context.
-    nearest: Nearest,
+    /// Which list had an edge to each state last.
+    last: LastOrigins,
 }
 
 impl EarlierEdges {
@@ -31,7 +31,7 @@ impl EarlierEdges {
         EarlierEdges {
             lists: Vec::new(alloc),
             kept: 0,
-            nearest: Nearest::new(alloc),
+            last: LastOrigins::new(alloc),
         }
     }
 
@@ -40,7 +40,7 @@ impl EarlierEdges {
     pub fn likely(&self, edges: &Sorted<'_>) -> &[SortedEdge]
         ensures { (pairs : List NumberPair) (cells : List (List ℕ)) → ArePassed pairs cells self.now.lists.items → IsPassed pairs cells result.now }
     {
-        let Some(number) = self.nearest.at(edges.context()) else {
+        let Some(number) = self.last.likely(edges.listed()) else {
             return &[];
         };
         match self.lists.get(number) {
@@ -54,7 +54,7 @@ impl EarlierEdges {
         ensures { OnOk result ((pairs : List NumberPair) (cells : List (List ℕ)) → ArePassed pairs cells self.old.lists.items → IsPassed pairs cells edges.entry.sorted → ArePassed pairs cells self.new.lists.items) }
     {
         self.make_room(alloc, edges.len());
-        self.nearest.put(edges.context(), self.lists.len())?;
+        self.last.set(edges.listed(), self.lists.len())?;
         self.lists.push(edges.into_sorted())?;
         Ok(())
     }

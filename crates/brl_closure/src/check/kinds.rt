@@ -1,22 +1,17 @@
 //! The edges of a state that decide which pairs are missing: the first two of each kind.
-ghost use Rattle.std.specs.Prelude.{◌≡◌, ℕ, IfOk, List, Some, length, slice_get};
+ghost use Rattle.std.specs.Prelude.{◌≡◌, ℕ, IfOk, List, Some, slice_get};
 ghost use Rattle.brl_closure.specs.Alike.{AreFirstTwo, IsCounted, number_kind};
 ghost use Rattle.brl_pairs.specs.Listed.{HaveCells, edges_with};
 ghost use Rattle.brl_pairs.specs.Members.{IsMember};
-ghost use Rattle.brl_pairs.specs.Places.{ArePlacesIn, HasEachPlace};
 ghost use Rattle.brl_pairs.specs.declared.edge.ListedEdge.{ListedEdge as EdgeValue};
 
 use crate::check::sorted::Sorted;
-use brl_cells::Cells;
-use brl_contexts::Steps;
-use brl_pairs::{
-    Excused, Key, ListedEdge, Members, Seed, SortedEdge, as_u32, places_through, sort_edges,
-};
+use brl_pairs::{Excused, KeptCells, Key, ListedEdge, Members, Seed, SortedEdge, sort_edges};
 use std::alloc::{AllocError, Global};
 
 /// What decides which pair follows an edge, and with which edges it is excused: the number of its
 /// next state, that of its cells, and its rule if a pair of what is excused has it.
-#[derive(Clone, Copy, PartialEq, Eq, Hash)]
+#[derive(PartialEq, Eq, Hash, Drop)]
 struct Kind {
     next: u32,
     cells: u32,
@@ -27,10 +22,6 @@ impl Key for Kind {
     ghost use Rattle.brl_closure.specs.SameKind.{same_kinds};
 
     ghost same = { same_kinds };
-
-    fn copy(&self, _alloc: Global) -> Result<Kind, AllocError> {
-        Ok(*self)
-    }
 }
 
 impl Kind {
@@ -58,35 +49,21 @@ impl Kind {
 pub fn sort_first_two<'c>(
     alloc: Global,
     excused: &Excused,
-    cells: &'c [Cells],
-    steps: Steps,
+    cells: &'c KeptCells,
+    edges: Vec<ListedEdge>,
     seed: Seed,
 ) -> Result<Sorted<'c>, AllocError>
-    requires cells { HaveCells cells.now steps.edges.items }
-    requires order { HasEachPlace (length steps.edges.items) steps.order.items }
-    ensures first_two { IfOk result (λ sorted. AreFirstTwo excused.now (edges_with cells.now steps.edges.items) sorted.edges) }
+    requires { HaveCells cells.now edges.items }
+    ensures first_two { IfOk result (λ sorted. AreFirstTwo excused.now (edges_with cells.now edges.items) sorted.edges) }
     ensures cells { IfOk result (λ sorted. sorted.cells ≡ cells.now) }
 {
-    let Steps {
-        edges,
-        order,
-        context,
-    } = steps;
-    let sorted = sort_edges(alloc, cells, edges.as_slice(), order.as_slice())?;
+    let sorted = sort_edges(alloc, cells, edges.as_slice())?;
     if !has_three_alike(sorted.as_slice()) {
-        return Ok(Sorted::new(cells, edges, sorted, context));
+        return Ok(Sorted::new(cells, edges, sorted));
     }
-    let FirstTwo { kept, places } = first_two_of_each_kind(alloc, excused, edges.as_slice(), seed)?;
-    let order = places_through(alloc, order.as_slice(), places.as_slice())?;
-    let sorted = sort_edges(alloc, cells, kept.as_slice(), order.as_slice())?;
-    Ok(Sorted::new(cells, kept, sorted, context))
-}
-
-/// The edges that are kept, in their order, and the place that each edge has among them.
-#[derive(Drop)]
-struct FirstTwo {
-    kept: Vec<ListedEdge>,
-    places: Vec<Option<u32>>,
+    let kept = first_two_of_each_kind(alloc, excused, edges.as_slice(), seed)?;
+    let sorted = sort_edges(alloc, cells, kept.as_slice())?;
+    Ok(Sorted::new(cells, kept, sorted))
 }
 
 /// Whether three of these edges, which are in the order of their cells, have the same ones.
@@ -105,25 +82,19 @@ fn first_two_of_each_kind(
     excused: &Excused,
     edges: &[ListedEdge],
     seed: Seed,
-) -> Result<FirstTwo, AllocError>
-    ensures first_two { IfOk result (λ first. (cells : List (List ℕ)) → AreFirstTwo excused.now (edges_with cells edges.now) (edges_with cells first.kept.items)) }
-    ensures only { IfOk result (λ first. (place : ℕ) (e : EdgeValue) → slice_get first.kept.items place ≡ Some e → IsMember edges.now e) }
-    ensures count { IfOk result (λ first. length first.places.items ≡ length edges.now) }
-    ensures places { IfOk result (λ first. ArePlacesIn (length first.kept.items) first.places.items) }
+) -> Result<Vec<ListedEdge>, AllocError>
+    ensures first_two { IfOk result (λ kept. (cells : List (List ℕ)) → AreFirstTwo excused.now (edges_with cells edges.now) (edges_with cells kept.items)) }
+    ensures only { IfOk result (λ kept. (place : ℕ) (e : EdgeValue) → slice_get kept.items place ≡ Some e → IsMember edges.now e) }
 {
     let mut once = Members::new(alloc, seed);
     let mut twice = Members::new(alloc, seed);
     let mut kept = Vec::new(alloc);
-    let mut places = Vec::with_capacity(alloc, edges.len())?;
     for edge in edges {
         if count(excused, edge, &mut once, &mut twice)? {
-            places.push(Some(as_u32(kept.len())?))?;
             kept.push(*edge)?;
-        } else {
-            places.push(None)?;
         }
     }
-    Ok(FirstTwo { kept, places })
+    Ok(kept)
 }
 
 /// Counts the kind of an edge: adds it to the kinds that are there once, and where it is there to

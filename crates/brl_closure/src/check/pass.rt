@@ -1,25 +1,23 @@
 //! The pass over the states, with the edges of one state at a time.
-ghost use Rattle.std.specs.Prelude.{◌≡◌, ◌+◌, ◌<◌, ◌↔◌, [], IfErr, IfOk, IsTrue, List, MatchOption, None, OnOk, length};
+ghost use Rattle.std.specs.Prelude.{◌≡◌, ◌+◌, ◌<◌, ◌↔◌, IfErr, IfOk, IsTrue, List, MatchOption, None, OnOk, length};
 ghost use Rattle.brl_closure.specs.Alike.{AreFirstTwoAt};
 ghost use Rattle.brl_closure.specs.Pass.{ArePairsBehind, IsMissingBelow, IsPairFound};
 ghost use Rattle.brl_closure.specs.Passed.{ArePassed, MissNone};
 ghost use Rattle.brl_closure.specs.Excusing.{IsRefusedUpTo};
 ghost use Rattle.brl_closure.specs.Refusals.{HasStart, MissesNoState};
-ghost use Rattle.brl_contexts.specs.Contexts.{IsEmpty};
 ghost use Rattle.brl_failure.specs.Failure.{IfFault};
 ghost use Rattle.brl_pairs.specs.Body.{NumberPair};
 ghost use Rattle.brl_pairs.specs.Runs.{KeepsLaws};
 
 use crate::AcceptFault;
 use crate::check::earlier::EarlierEdges;
-use crate::check::edges::find_steps;
+use crate::check::edges::{KeptParts, edges_of};
 use crate::check::kinds::sort_first_two;
 use crate::check::missing::{MissingPair, MissingSplit, StateEdges};
 use crate::check::pairs_by_state::{PairsByTrailingState, pairs_by_trailing_state};
 use crate::check::sorted::Sorted;
-use crate::numbering::Numbering;
 use brl_failure::Failure;
-use brl_pairs::{Based, Body, Excused, Key, Machine, Seed};
+use brl_pairs::{Body, Excused, Key, Machine, Parted, Seed};
 use brl_progress::{Progress, Work};
 use std::alloc::{AllocError, Global};
 
@@ -115,17 +113,10 @@ fn keep_passed(
     earlier.keep(alloc, edges)
 }
 
-/// What a pass keeps from one state to the next.
-#[derive(Drop)]
-struct Known<S: Key, D: Key> {
-    numbering: Numbering<S, D>,
-    earlier: EarlierEdges,
-}
-
 /// What is missing, by one pass over the states that holds the edges of one state at a time. A
 /// watcher hears of each state. The fault is the first step that leads to no state of the body.
-/// Bases, states, cells and kinds are found by hashes of this seed.
-pub fn find_missing<M: Based, W: Progress>(
+/// Parts, cells and kinds are found by hashes of this seed.
+pub fn find_missing<M: Parted, W: Progress>(
     alloc: Global,
     machine: &M,
     excused: &Excused,
@@ -135,46 +126,23 @@ pub fn find_missing<M: Based, W: Progress>(
 ) -> Result<Missing, Failure<AcceptFault>>
     requires laws { KeepsLaws (M.behaviour machine.now) }
     requires start { HasStart (M.behaviour machine.now) body.now }
-    ensures missing { IfOk result (IsMissingBelow (M.behaviour machine.now) excused.now body.now (length body.now.states)) }
-    ensures complete { OnOk result (MissesNoState (M.behaviour machine.now) body.now) }
-    ensures refused { IfErr result (IfFault (IsRefusedUpTo (M.behaviour machine.now) excused.now body.now)) }
-{
-    let mut known = Known {
-        numbering: Numbering::new(alloc, seed),
-        earlier: EarlierEdges::new(alloc),
-    };
-    pass_states(alloc, machine, excused, body, seed, &mut known, watch)
-}
-
-/// Passes over the states, with nothing known at first.
-fn pass_states<M: Based, W: Progress>(
-    alloc: Global,
-    machine: &M,
-    excused: &Excused,
-    body: &Body<M::State>,
-    seed: Seed,
-    known: &mut Known<M::State, M::More>,
-    watch: &mut W,
-) -> Result<Missing, Failure<AcceptFault>>
-    requires laws { KeepsLaws (M.behaviour machine.now) }
-    requires start { HasStart (M.behaviour machine.now) body.now }
-    requires contexts { IsEmpty known.old.numbering.contexts }
-    requires numbers { known.old.numbering.numbers.items ≡ [] }
-    requires earlier { known.old.earlier.lists.items ≡ [] }
     ensures missing { IfOk result (IsMissingBelow (M.behaviour machine.now) excused.now body.now (length body.now.states)) }
     ensures complete { OnOk result (MissesNoState (M.behaviour machine.now) body.now) }
     ensures refused { IfErr result (IfFault (IsRefusedUpTo (M.behaviour machine.now) excused.now body.now)) }
 {
     let behind = pairs_by_trailing_state(alloc, body)?;
+    let mut kept = KeptParts::new(alloc, seed);
+    let mut earlier = EarlierEdges::new(alloc);
     let mut missing = Missing {
         split: None,
         pair: None,
     };
     for state in 0..body.state_count() {
         watch.report(work_at(body, state));
-        let steps = find_steps(alloc, machine, body, &mut known.numbering, state as usize)?;
-        let cells = known.numbering.contexts.named.cells.as_slice();
-        let sorted = sort_first_two(alloc, excused, cells, steps, seed)?;
+        kept.forget_parts(alloc, seed);
+        let edges = edges_of(alloc, machine, body, &mut kept, state as usize)?;
+        kept.cells.rank(alloc)?;
+        let sorted = sort_first_two(alloc, excused, &kept.cells, edges, seed)?;
         let at = StateEdges {
             alloc,
             machine,
@@ -182,8 +150,8 @@ fn pass_states<M: Based, W: Progress>(
             body,
             edges: &sorted,
         };
-        missing = missing_after(&at, &known.earlier, &behind, state, missing)?;
-        keep_passed(alloc, excused, missing, sorted, &mut known.earlier)?;
+        missing = missing_after(&at, &earlier, &behind, state, missing)?;
+        keep_passed(alloc, excused, missing, sorted, &mut earlier)?;
     }
     Ok(missing)
 }

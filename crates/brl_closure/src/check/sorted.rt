@@ -10,7 +10,8 @@ ghost use Rattle.brl_pairs.specs.declared.sorted.SortedEdge.{SortedEdge as Sorte
 
 use brl_cells::{Cell, Cells};
 use brl_pairs::{
-    Edge, ListedEdge, SortedEdge, Splits, cells_at, earlier_splits, matches, shared_with, splits_of,
+    Edge, KeptCells, ListedEdge, SortedEdge, Splits, cells_at, earlier_splits, matches,
+    shared_with, splits_of,
 };
 use std::alloc::{AllocError, Global};
 use std::marker::Model;
@@ -19,11 +20,9 @@ use std::marker::Model;
 /// of their cells.
 #[derive(Drop)]
 pub struct Sorted<'c> {
-    cells: &'c [Cells],
+    cells: &'c KeptCells,
     edges: Vec<ListedEdge>,
     sorted: Vec<SortedEdge>,
-    /// The number of the state's context, if it has one.
-    context: Option<usize>,
 }
 
 impl<'c> Model for Sorted<'c> {
@@ -35,14 +34,8 @@ impl<'c> Model for Sorted<'c> {
 }
 
 impl<'c> Sorted<'c> {
-    /// The edges with these cells, which are also given in the order of their cells, of a state
-    /// with this context.
-    pub fn new(
-        cells: &'c [Cells],
-        edges: Vec<ListedEdge>,
-        sorted: Vec<SortedEdge>,
-        context: Option<usize>,
-    ) -> Sorted<'c>
+    /// The edges with these cells, which are also given in the order of their cells.
+    pub fn new(cells: &'c KeptCells, edges: Vec<ListedEdge>, sorted: Vec<SortedEdge>) -> Sorted<'c>
         requires { IsSortedOf cells.now (edges_with cells.now edges.items) sorted.items }
         ensures cells { result.cells ≡ cells.now }
         ensures edges { result.edges ≡ edges_with cells.now edges.items }
@@ -51,7 +44,6 @@ impl<'c> Sorted<'c> {
             cells,
             edges,
             sorted,
-            context,
         }
     }
 
@@ -69,9 +61,9 @@ impl<'c> Sorted<'c> {
         self.edges.len()
     }
 
-    /// The number of the state's context, if it has one.
-    pub fn context(&self) -> Option<usize> {
-        self.context
+    /// The edges in listed order.
+    pub fn listed(&self) -> &[ListedEdge] {
+        self.edges.as_slice()
     }
 
     /// The edges in the order of their cells.
@@ -102,7 +94,7 @@ impl<'c> Sorted<'c> {
         requires { place < length self.now.edges }
         ensures { (e : EdgeValue) → slice_get self.now.edges place ≡ Some e → result.now ≡ e.cells }
     {
-        cells_at(self.cells, self.edges[place].cells)
+        cells_at(self.cells.as_slice(), self.edges[place].cells)
     }
 
     /// The place in listed order of the edge at this position of the order of cells, from 0.
@@ -131,14 +123,19 @@ impl<'c> Sorted<'c> {
     pub fn matches(&self, alloc: Global, lead: &[Cell]) -> Result<Vec<SortedEdge>, AllocError>
         ensures { IfOk result (λ found. AreFound self.now.edges lead.now (length self.now.edges) found.items) }
     {
-        matches(alloc, self.cells, self.sorted.as_slice(), lead)
+        matches(alloc, self.cells.as_slice(), self.sorted.as_slice(), lead)
     }
 
     /// The splits of two edges.
     pub fn splits(&self, alloc: Global) -> Result<Splits, AllocError>
         ensures { IfOk result (AreSplits self.now.cells self.now.sorted) }
     {
-        splits_of(alloc, self.cells, self.sorted.as_slice(), self.edges.len())
+        splits_of(
+            alloc,
+            self.cells.as_slice(),
+            self.sorted.as_slice(),
+            self.edges.len(),
+        )
     }
 
     /// The edges before the one at this place whose cells begin its cells or begin with them, by
@@ -153,7 +150,13 @@ impl<'c> Sorted<'c> {
         requires within { place < length self.now.edges }
         ensures { IfOk result (λ found. (e : EdgeValue) → slice_get self.now.edges place ≡ Some e → AreFound self.now.edges e.cells place found.items) }
     {
-        earlier_splits(alloc, self.cells, self.sorted.as_slice(), splits, place)
+        earlier_splits(
+            alloc,
+            self.cells.as_slice(),
+            self.sorted.as_slice(),
+            splits,
+            place,
+        )
     }
 
     /// Of each edge, in the order of cells, whether it has one of its own among others.

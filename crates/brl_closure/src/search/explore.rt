@@ -14,7 +14,7 @@ use crate::search::outcome::Outcome;
 use crate::search::trail::Trail;
 use crate::search::worklist::Worklist;
 use brl_failure::Failure;
-use brl_pairs::{Based, Seed};
+use brl_pairs::{Parted, Seed};
 use brl_progress::{Progress, Slice, Sliced, Work, run_to_end};
 use std::alloc::{AllocError, Global};
 use std::marker::Model;
@@ -27,13 +27,13 @@ use std::marker::Model;
 /// A contract sees what is found so far, and how many steps are left at most. `search_machine` runs
 /// such a search to its end.
 #[derive(Drop)]
-pub struct Search<'m, M: Based> {
+pub struct Search<'m, M: Parted> {
     finder: Finder<'m, M>,
     trail: Trail<M::State>,
-    worklist: Worklist<M::State, M::More>,
+    worklist: Worklist<M::Part>,
 }
 
-impl<'m, M: Based> Model for Search<'m, M> {
+impl<'m, M: Parted> Model for Search<'m, M> {
     ghost use Rattle.brl_closure.specs.SearchView.{SearchView};
 
     ghost Value = { SearchView M M.State };
@@ -48,10 +48,10 @@ impl<'m, M: Based> Model for Search<'m, M> {
       steps_left = steps_left s.finder.limit s.trail s.worklist;
     } };
 
-    ghost invariant = { λ s. IsWorking M.behaviour M.sharing s.finder s.trail s.worklist };
+    ghost invariant = { λ s. IsWorking M.behaviour M.steps_of s.finder s.trail s.worklist };
 }
 
-impl<'m, M: Based> Search<'m, M> {
+impl<'m, M: Parted> Search<'m, M> {
     /// The search of a machine that has found the start, or its outcome. It finds states and pairs
     /// by hashes of this seed, which is to be drawn from all that the machine depends on.
     pub fn start(
@@ -99,7 +99,7 @@ impl<'m, M: Based> Search<'m, M> {
     }
 }
 
-impl<'m, M: Based> Sliced for Search<'m, M> {
+impl<'m, M: Parted> Sliced for Search<'m, M> {
     ghost use Rattle.std.specs.Prelude.{ℕ};
     ghost use Rattle.std.proofs.Common.{subst};
     ghost use Rattle.brl_closure.specs.SearchView.{IsAfter};
@@ -128,6 +128,7 @@ impl<'m, M: Based> Sliced for Search<'m, M> {
             mut trail,
             mut worklist,
         } = self;
+        worklist.forget_parts(finder.alloc, finder.seed);
         match finder.run(&mut trail, &mut worklist, steps) {
             Ok(true) => Ok(Slice::Unfinished(Search {
                 finder,
@@ -155,7 +156,7 @@ impl<'m, M: Based> Sliced for Search<'m, M> {
 
 /// Searches a machine to its end: finds reached closed sets, or two paths with the same cells, or
 /// the limit. `watch` hears of the progress before each slice of steps.
-pub fn search_machine<M: Based, W: Progress>(
+pub fn search_machine<M: Parted, W: Progress>(
     alloc: Global,
     machine: &M,
     limit: u64,
@@ -169,16 +170,16 @@ pub fn search_machine<M: Based, W: Progress>(
     run_to_end(begun, watch)
 }
 
-impl<'m, M: Based> Finder<'m, M> {
+impl<'m, M: Parted> Finder<'m, M> {
     /// Takes at most this number of steps. False where nothing is left to do.
     fn run(
         &self,
         trail: &mut Trail<M::State>,
-        worklist: &mut Worklist<M::State, M::More>,
+        worklist: &mut Worklist<M::Part>,
         steps: u64,
     ) -> Result<bool, Failure<Stop>>
-        requires working { IsWorking M.behaviour M.sharing self.now trail.old worklist.old }
-        ensures steps { IfOk result (λ more. OnTrue more (AreSteps M.behaviour M.sharing steps self.now trail.old worklist.old trail.new worklist.new)) }
+        requires working { IsWorking M.behaviour M.steps_of self.now trail.old worklist.old }
+        ensures steps { IfOk result (λ more. OnTrue more (AreSteps M.behaviour M.steps_of steps self.now trail.old worklist.old trail.new worklist.new)) }
         ensures finished { IfOk result (λ more. OnFalse more (IsFinished M.behaviour self.now trail.new)) }
         ensures stopped { IfErr result (IfFault (IsStopped M.behaviour self.now trail.new)) }
     {
@@ -195,10 +196,10 @@ impl<'m, M: Based> Finder<'m, M> {
     fn step(
         &self,
         trail: &mut Trail<M::State>,
-        worklist: &mut Worklist<M::State, M::More>,
+        worklist: &mut Worklist<M::Part>,
     ) -> Result<bool, Failure<Stop>>
-        requires working { IsWorking M.behaviour M.sharing self.now trail.old worklist.old }
-        ensures step { IfOk result (λ more. OnTrue more (IsStep M.behaviour M.sharing self.now trail.old worklist.old trail.new worklist.new)) }
+        requires working { IsWorking M.behaviour M.steps_of self.now trail.old worklist.old }
+        ensures step { IfOk result (λ more. OnTrue more (IsStep M.behaviour M.steps_of self.now trail.old worklist.old trail.new worklist.new)) }
         ensures finished { IfOk result (λ more. OnFalse more (IsFinished M.behaviour self.now trail.new)) }
         ensures stopped { IfErr result (IfFault (IsStopped M.behaviour self.now trail.new)) }
     {
@@ -217,10 +218,10 @@ impl<'m, M: Based> Finder<'m, M> {
     fn walk_next(
         &self,
         trail: &mut Trail<M::State>,
-        worklist: &mut Worklist<M::State, M::More>,
+        worklist: &mut Worklist<M::Part>,
     ) -> Result<bool, Failure<Stop>>
-        requires working { IsWorking M.behaviour M.sharing self.now trail.old worklist.old }
-        ensures step { IfOk result (λ more. OnTrue more (IsStep M.behaviour M.sharing self.now trail.old worklist.old trail.new worklist.new)) }
+        requires working { IsWorking M.behaviour M.steps_of self.now trail.old worklist.old }
+        ensures step { IfOk result (λ more. OnTrue more (IsStep M.behaviour M.steps_of self.now trail.old worklist.old trail.new worklist.new)) }
         ensures none { IfOk result (λ more. OnFalse more (NoneIsReady worklist.old)) }
         ensures same_work { IfOk result (λ more. OnFalse more (worklist.new ≡ worklist.old)) }
         ensures same { IfOk result (λ more. OnFalse more (trail.new ≡ trail.old)) }
@@ -239,18 +240,18 @@ impl<'m, M: Based> Finder<'m, M> {
     fn expand_next(
         &self,
         trail: &mut Trail<M::State>,
-        worklist: &mut Worklist<M::State, M::More>,
+        worklist: &mut Worklist<M::Part>,
     ) -> Result<(), Failure<Stop>>
-        requires working { IsWorking M.behaviour M.sharing self.now trail.old worklist.old }
+        requires working { IsWorking M.behaviour M.steps_of self.now trail.old worklist.old }
         requires some { length worklist.old.expanded.items < length trail.old.states }
-        ensures step { OnOk result (IsStep M.behaviour M.sharing self.now trail.old worklist.old trail.new worklist.new) }
+        ensures step { OnOk result (IsStep M.behaviour M.steps_of self.now trail.old worklist.old trail.new worklist.new) }
         ensures stopped { IfErr result (IfFault (IsStopped M.behaviour self.now trail.new)) }
     {
         let known = trail.pairs.len();
         let number = worklist.expanded.len();
-        let (numbering, nearest) = (&mut worklist.numbering, &mut worklist.nearest);
-        let expanded = worklist.expanded.as_slice();
-        let edges = self.expand(trail, numbering, nearest, expanded, number)?;
+        let (cells, parts) = (&mut worklist.cells, &mut worklist.parts);
+        let (last, expanded) = (&mut worklist.last, worklist.expanded.as_slice());
+        let edges = self.expand(trail, cells, parts, last, expanded, number)?;
         worklist.make_room(self.alloc, edges.len());
         worklist.expanded.push(edges)?;
         worklist.enqueue_from(&trail.pairs, known)?;

@@ -1,6 +1,7 @@
 //! Expanding states, and walking pairs.
 ghost use Rattle.std.specs.Prelude.{◌≤◌, ◌≡◌, ◌<◌, ℕ, length, IfErr, IfOk, OnOk, Some, slice_get};
 ghost use Rattle.brl_pairs.specs.Body.{NumberPair};
+ghost use Rattle.brl_parts.specs.Parts.{AreKeptParts};
 ghost use Rattle.brl_pairs.specs.Edges.{AreEdges};
 ghost use Rattle.brl_pairs.specs.Listed.{edges_with};
 ghost use Rattle.brl_pairs.specs.NumberPairs.{IsFollowed};
@@ -9,22 +10,21 @@ ghost use Rattle.brl_pairs.specs.Splits.{AreSplits};
 ghost use Rattle.brl_pairs.specs.declared.edge.Edge.{Edge as EdgeValue};
 ghost use Rattle.brl_failure.specs.Failure.{IfFault};
 ghost use Rattle.brl_closure.specs.Edges.{AreFollowedIfShared, AreKeptEdges, AreKeptOrNone, IsExpanded, IsWalked, edges_or_none};
-ghost use Rattle.brl_closure.specs.Numbering.{IsNumbering};
 ghost use Rattle.brl_closure.specs.SearchView.{Stays};
 ghost use Rattle.brl_closure.specs.Worklist.{StillHas};
 ghost use Rattle.brl_closure.specs.Trail.{AddsPairs, Advances, IsActive, IsMoveOf, IsStopped};
 
-use crate::nearest::Nearest;
-use crate::numbering::Numbering;
+use crate::last_origins::LastOrigins;
 use crate::search::finder::{Finder, Stop};
 use crate::search::trail::{Origins, PairOrigin, Trail};
 use crate::search::worklist::Worklist;
 use brl_cells::Cells;
 use brl_failure::Failure;
 use brl_pairs::{
-    Based, ListedEdge, Machine, Pair, SortedEdge, Splits, cells_at, cells_of, count_unshared,
-    earlier_splits, matches, shared_with, sort_edges, splits_of, unshared_splits,
+    KeptCells, ListedEdge, Machine, Pair, Parted, SortedEdge, Splits, as_u32, cells_at, cells_of,
+    count_unshared, earlier_splits, matches, shared_with, sort_edges, splits_of, unshared_splits,
 };
+use brl_parts::Parts;
 use std::alloc::AllocError;
 
 /// A state that is expanded: its number, and its edges with their cells, in listed order and in the
@@ -143,7 +143,8 @@ impl<'m, M: Machine> Finder<'m, M> {
         if count_unshared(shared) > shared.len() / 2 {
             return self.find_splits(trail, state);
         }
-        let splits = unshared_splits(self.alloc, state.cells, state.sorted, shared)?;
+        let limit = as_u32(state.edges.len())?;
+        let splits = unshared_splits(self.alloc, state.cells, state.sorted, shared, limit)?;
         for split in splits.as_slice() {
             self.find_split(trail, state, split.first as usize, split.second as usize)?;
         }
@@ -216,43 +217,44 @@ impl<'m, M: Machine> Finder<'m, M> {
     }
 }
 
-impl<'m, M: Based> Finder<'m, M> {
+impl<'m, M: Parted> Finder<'m, M> {
     /// Adds the next states of the steps of a state, and its splits. Returns the edges of these
     /// steps in the order of their cells, which are kept. The splits of two edges that the state
     /// shares with an expanded one have been added before.
     pub(crate) fn expand(
         &self,
         trail: &mut Trail<M::State>,
-        numbering: &mut Numbering<M::State, M::More>,
-        nearest: &mut Nearest,
+        cells: &mut KeptCells,
+        parts: &mut Parts<M::Part>,
+        last: &mut LastOrigins,
         expanded: &[Vec<SortedEdge>],
         number: usize,
     ) -> Result<Vec<SortedEdge>, Failure<Stop>>
         requires active { IsActive M.behaviour self.now trail.old }
         requires within { number < length trail.old.states }
-        requires numbering { IsNumbering (M.behaviour self.now.machine.now) (M.sharing self.now.machine.now) trail.old.states numbering.old }
-        requires kept { AreKeptOrNone (M.behaviour self.now.machine.now) trail.old.states numbering.old.contexts.named.cells expanded.now }
+        requires parts { AreKeptParts (M.steps_of self.now.machine.now) trail.old.states cells.old parts.old }
+        requires kept { AreKeptOrNone (M.behaviour self.now.machine.now) trail.old.states cells.old expanded.now }
         requires done { (k : ℕ) → k < length expanded.now → IsExpanded (M.behaviour self.now.machine.now) trail.old.states trail.old.pairs k }
-        ensures edges { IfOk result (λ sorted. AreSortedEdges (M.behaviour self.now.machine.now) trail.new.states number numbering.new.contexts.named.cells sorted.items) }
-        ensures cells { OnOk result (Stays numbering.old.contexts.named.cells numbering.new.contexts.named.cells) }
-        ensures numbering { OnOk result (IsNumbering (M.behaviour self.now.machine.now) (M.sharing self.now.machine.now) trail.new.states numbering.new) }
+        ensures edges { IfOk result (λ sorted. AreSortedEdges (M.behaviour self.now.machine.now) trail.new.states number cells.new sorted.items) }
+        ensures cells { OnOk result (Stays cells.old cells.new) }
+        ensures parts { OnOk result (AreKeptParts (M.steps_of self.now.machine.now) trail.new.states cells.new parts.new) }
         ensures expanded { OnOk result (IsExpanded (M.behaviour self.now.machine.now) trail.new.states trail.new.pairs number) }
         ensures advances { OnOk result (Advances M.behaviour self.now trail.old trail.new) }
         ensures stopped { IfErr result (IfFault (IsStopped M.behaviour self.now trail.new)) }
     {
-        let steps = self.find_steps(trail, numbering, number)?;
-        let cells = numbering.contexts.named.cells.as_slice();
-        let edges = steps.edges.as_slice();
-        let sorted = sort_edges(self.alloc, cells, edges, steps.order.as_slice())?;
-        let others = edges_at(expanded, nearest.at(steps.context));
-        nearest.put(steps.context, number)?;
+        let edges = self.find_edges(trail, cells, parts, number)?;
+        cells.rank(self.alloc)?;
+        let sorted = sort_edges(self.alloc, cells, edges.as_slice())?;
+        let others = edges_at(expanded, last.likely(edges.as_slice()));
+        last.set(edges.as_slice(), number)?;
         let shared = shared_with(self.alloc, cells, sorted.as_slice(), others)?;
         // No state has two numbers.
         let _ = trail.states.as_slice();
+        let kept = cells.as_slice();
         let state = Expanding {
             number,
-            cells,
-            edges,
+            cells: kept,
+            edges: edges.as_slice(),
             sorted: sorted.as_slice(),
         };
         self.find_new_splits(trail, &state, shared.as_slice())?;
@@ -263,27 +265,23 @@ impl<'m, M: Based> Finder<'m, M> {
     fn list_again(
         &self,
         trail: &mut Trail<M::State>,
-        numbering: &mut Numbering<M::State, M::More>,
+        cells: &mut KeptCells,
+        parts: &mut Parts<M::Part>,
         number: usize,
     ) -> Result<Vec<SortedEdge>, Failure<Stop>>
         requires active { IsActive M.behaviour self.now trail.old }
         requires within { number < length trail.old.states }
-        requires numbering { IsNumbering (M.behaviour self.now.machine.now) (M.sharing self.now.machine.now) trail.old.states numbering.old }
-        ensures edges { IfOk result (λ sorted. AreSortedEdges (M.behaviour self.now.machine.now) trail.new.states number numbering.new.contexts.named.cells sorted.items) }
-        ensures cells { OnOk result (Stays numbering.old.contexts.named.cells numbering.new.contexts.named.cells) }
-        ensures numbering { OnOk result (IsNumbering (M.behaviour self.now.machine.now) (M.sharing self.now.machine.now) trail.new.states numbering.new) }
+        requires parts { AreKeptParts (M.steps_of self.now.machine.now) trail.old.states cells.old parts.old }
+        ensures edges { IfOk result (λ sorted. AreSortedEdges (M.behaviour self.now.machine.now) trail.new.states number cells.new sorted.items) }
+        ensures cells { OnOk result (Stays cells.old cells.new) }
+        ensures parts { OnOk result (AreKeptParts (M.steps_of self.now.machine.now) trail.new.states cells.new parts.new) }
         ensures advances { OnOk result (Advances M.behaviour self.now trail.old trail.new) }
         ensures stopped { IfErr result (IfFault (IsStopped M.behaviour self.now trail.new)) }
         ensures pairs { trail.new.pairs ≡ trail.old.pairs }
     {
-        let steps = self.find_steps(trail, numbering, number)?;
-        let cells = numbering.contexts.named.cells.as_slice();
-        let sorted = sort_edges(
-            self.alloc,
-            cells,
-            steps.edges.as_slice(),
-            steps.order.as_slice(),
-        )?;
+        let edges = self.find_edges(trail, cells, parts, number)?;
+        cells.rank(self.alloc)?;
+        let sorted = sort_edges(self.alloc, cells, edges.as_slice())?;
         Ok(sorted)
     }
 
@@ -291,16 +289,16 @@ impl<'m, M: Based> Finder<'m, M> {
     fn take_edges(
         &self,
         trail: &mut Trail<M::State>,
-        worklist: &mut Worklist<M::State, M::More>,
+        worklist: &mut Worklist<M::Part>,
         number: usize,
     ) -> Result<Vec<SortedEdge>, Failure<Stop>>
         requires active { IsActive M.behaviour self.now trail.old }
         requires there { length worklist.old.expanded.items ≤ length trail.old.states }
         requires within { number < length worklist.old.expanded.items }
-        requires kept { AreKeptOrNone (M.behaviour self.now.machine.now) trail.old.states worklist.old.numbering.contexts.named.cells worklist.old.expanded.items }
-        requires numbering { IsNumbering (M.behaviour self.now.machine.now) (M.sharing self.now.machine.now) trail.old.states worklist.old.numbering }
-        ensures edges { IfOk result (λ sorted. AreSortedEdges (M.behaviour self.now.machine.now) trail.new.states number worklist.new.numbering.contexts.named.cells sorted.items) }
-        ensures work { OnOk result (StillHas (M.behaviour self.now.machine.now) (M.sharing self.now.machine.now) trail.new.states worklist.old worklist.new) }
+        requires kept { AreKeptOrNone (M.behaviour self.now.machine.now) trail.old.states worklist.old.cells worklist.old.expanded.items }
+        requires parts { AreKeptParts (M.steps_of self.now.machine.now) trail.old.states worklist.old.cells worklist.old.parts }
+        ensures edges { IfOk result (λ sorted. AreSortedEdges (M.behaviour self.now.machine.now) trail.new.states number worklist.new.cells sorted.items) }
+        ensures work { OnOk result (StillHas (M.behaviour self.now.machine.now) (M.steps_of self.now.machine.now) trail.new.states worklist.old worklist.new) }
         ensures advances { OnOk result (Advances M.behaviour self.now trail.old trail.new) }
         ensures stopped { IfErr result (IfFault (IsStopped M.behaviour self.now trail.new)) }
         ensures pairs { trail.new.pairs ≡ trail.old.pairs }
@@ -309,7 +307,8 @@ impl<'m, M: Based> Finder<'m, M> {
         if !kept.is_empty() {
             return Ok(kept);
         }
-        let edges = self.list_again(trail, &mut worklist.numbering, number)?;
+        let (cells, parts) = (&mut worklist.cells, &mut worklist.parts);
+        let edges = self.list_again(trail, cells, parts, number)?;
         worklist.make_room(self.alloc, edges.len());
         Ok(edges)
     }
@@ -319,23 +318,23 @@ impl<'m, M: Based> Finder<'m, M> {
     pub(crate) fn walk_queued(
         &self,
         trail: &mut Trail<M::State>,
-        worklist: &mut Worklist<M::State, M::More>,
+        worklist: &mut Worklist<M::Part>,
         number: usize,
     ) -> Result<(), Failure<Stop>>
         requires active { IsActive M.behaviour self.now trail.old }
         requires there { length worklist.old.expanded.items ≤ length trail.old.states }
-        requires kept { AreKeptOrNone (M.behaviour self.now.machine.now) trail.old.states worklist.old.numbering.contexts.named.cells worklist.old.expanded.items }
-        requires numbering { IsNumbering (M.behaviour self.now.machine.now) (M.sharing self.now.machine.now) trail.old.states worklist.old.numbering }
+        requires kept { AreKeptOrNone (M.behaviour self.now.machine.now) trail.old.states worklist.old.cells worklist.old.expanded.items }
+        requires parts { AreKeptParts (M.steps_of self.now.machine.now) trail.old.states worklist.old.cells worklist.old.parts }
         requires pair { (p : NumberPair) × (slice_get trail.old.pairs number ≡ Some p) × (p.behind < length worklist.old.expanded.items) }
         ensures walked { OnOk result (IsWalked (M.behaviour self.now.machine.now) trail.new.states trail.new.pairs number) }
-        ensures work { OnOk result (StillHas (M.behaviour self.now.machine.now) (M.sharing self.now.machine.now) trail.new.states worklist.old worklist.new) }
+        ensures work { OnOk result (StillHas (M.behaviour self.now.machine.now) (M.steps_of self.now.machine.now) trail.new.states worklist.old worklist.new) }
         ensures advances { OnOk result (Advances M.behaviour self.now trail.old trail.new) }
         ensures stopped { IfErr result (IfFault (IsStopped M.behaviour self.now trail.new)) }
     {
         let pair = copy_of(&trail.pairs.as_slice()[number])?;
         let behind = pair.behind as usize;
         let edges = self.take_edges(trail, worklist, behind)?;
-        let cells = worklist.numbering.contexts.named.cells.as_slice();
+        let cells = worklist.cells.as_slice();
         self.find_moves(trail, number, &pair, cells, edges.as_slice())?;
         worklist.put(behind, edges);
         Ok(())

@@ -3,13 +3,13 @@ ghost use Rattle.std.specs.Prelude.{◌≡◌, ◌⊎◌, ◌+◌, ◌<◌, ◌�
 ghost use Rattle.std.specs.BinaryHeap.{heap_items, heap_len};
 ghost use Rattle.std.specs.List.Sorted.{IsPermutation};
 ghost use Rattle.std.specs.declared.cmp.Reverse.{Reverse as ReverseValue};
-ghost use Rattle.brl_contexts.specs.Contexts.{IsEmpty};
+ghost use Rattle.brl_parts.specs.Parts.{no_parts};
 ghost use Rattle.brl_closure.specs.Edges.{AreSomeOf};
 ghost use Rattle.brl_closure.specs.Worklist.{IsItemOf, IsQueued, NoneIsReady};
 
-use crate::nearest::Nearest;
-use crate::numbering::Numbering;
-use brl_pairs::{Key, Members, Pair, Seed, SortedEdge};
+use crate::last_origins::LastOrigins;
+use brl_pairs::{KeptCells, Key, Members, Pair, Seed, SortedEdge};
+use brl_parts::Parts;
 use std::alloc::{AllocError, Global};
 use std::cmp::Reverse;
 use std::collections::BinaryHeap;
@@ -23,11 +23,13 @@ const MOST_KEPT: usize = 250_000;
 
 /// What is left to do in a search: states to be expanded, and pairs to be walked.
 #[derive(Drop)]
-pub struct Worklist<S: Key, D: Key> {
-    /// The contexts of the states, whose cells edges name by their numbers.
-    pub numbering: Numbering<S, D>,
-    /// Which state was expanded last in each context.
-    pub nearest: Nearest,
+pub struct Worklist<P: Key> {
+    /// The cells of edges, each once. Edges name them by their numbers.
+    pub cells: KeptCells,
+    /// The parts of steps that have been listed.
+    pub parts: Parts<P>,
+    /// Which state that has been expanded led to each state last.
+    pub last: LastOrigins,
     /// The edges of each state that has been expanded, in the order of their cells; none where they
     /// aren't kept. The other states are expanded in the order in which they were found.
     pub expanded: Vec<Vec<SortedEdge>>,
@@ -38,27 +40,41 @@ pub struct Worklist<S: Key, D: Key> {
     pub queue: BinaryHeap<Reverse<(u32, usize)>>,
 }
 
-impl<S: Key, D: Key> Worklist<S, D> {
-    /// Nothing is done, and no pair is known. Contexts will be found by hashes of this seed.
-    pub fn new(alloc: Global, seed: Seed) -> Worklist<S, D>
-        ensures contexts { IsEmpty result.numbering.contexts }
-        ensures numbers { result.numbering.numbers.items ≡ [] }
+impl<P: Key> Worklist<P> {
+    /// Nothing is done, and no pair is known. Cells and parts will be found by hashes of this seed.
+    pub fn new(alloc: Global, seed: Seed) -> Worklist<P>
+        ensures parts { result.parts ≡ no_parts }
         ensures expanded { result.expanded.items ≡ [] }
         ensures queue { heap_items result.queue ≡ [] }
     {
         Worklist {
-            numbering: Numbering::new(alloc, seed),
-            nearest: Nearest::new(alloc),
+            cells: KeptCells::new(alloc, seed),
+            parts: Parts::new(alloc, seed),
+            last: LastOrigins::new(alloc),
             expanded: Vec::new(alloc),
             kept: 0,
             queue: BinaryHeap::new(alloc),
         }
     }
 
+    /// Drops all kept parts where they have too many edges (`Parts::is_full`). New ones will be
+    /// found by hashes of this seed.
+    pub fn forget_parts(&mut self, alloc: Global, seed: Seed)
+        ensures parts { (self.new.parts ≡ self.old.parts) ⊎ (self.new.parts ≡ no_parts) }
+        ensures cells { self.new.cells ≡ self.old.cells }
+        ensures expanded { self.new.expanded ≡ self.old.expanded }
+        ensures queue { self.new.queue ≡ self.old.queue }
+    {
+        if self.parts.is_full() {
+            self.parts = Parts::new(alloc, seed);
+        }
+    }
+
     /// Counts edges of a state that will be kept. Where too many are, those that are kept are
     /// dropped.
     pub fn make_room(&mut self, alloc: Global, edges: usize)
-        ensures numbering { self.new.numbering ≡ self.old.numbering }
+        ensures parts { self.new.parts ≡ self.old.parts }
+        ensures cells { self.new.cells ≡ self.old.cells }
         ensures count { length self.new.expanded.items ≡ length self.old.expanded.items }
         ensures some { AreSomeOf self.old.expanded.items self.new.expanded.items }
         ensures queue { self.new.queue ≡ self.old.queue }
@@ -75,7 +91,8 @@ impl<S: Key, D: Key> Worklist<S, D> {
     pub fn take(&mut self, alloc: Global, number: usize) -> Vec<SortedEdge>
         requires { number < length self.old.expanded.items }
         ensures taken { slice_get self.old.expanded.items number ≡ Some result }
-        ensures numbering { self.new.numbering ≡ self.old.numbering }
+        ensures parts { self.new.parts ≡ self.old.parts }
+        ensures cells { self.new.cells ≡ self.old.cells }
         ensures count { length self.new.expanded.items ≡ length self.old.expanded.items }
         ensures some { AreSomeOf self.old.expanded.items self.new.expanded.items }
         ensures queue { self.new.queue ≡ self.old.queue }
@@ -86,7 +103,8 @@ impl<S: Key, D: Key> Worklist<S, D> {
     /// Keeps the edges of the expanded state with this number.
     pub fn put(&mut self, number: usize, edges: Vec<SortedEdge>)
         requires { number < length self.old.expanded.items }
-        ensures numbering { self.new.numbering ≡ self.old.numbering }
+        ensures parts { self.new.parts ≡ self.old.parts }
+        ensures cells { self.new.cells ≡ self.old.cells }
         ensures expanded { self.new.expanded.items ≡ slice_set self.old.expanded.items number edges }
         ensures queue { self.new.queue ≡ self.old.queue }
     {
@@ -96,7 +114,8 @@ impl<S: Key, D: Key> Worklist<S, D> {
     /// Takes out the queued pair that comes first, where its state behind has been expanded: then
     /// the states of all its successors are known.
     pub fn pop_ready(&mut self) -> Option<usize>
-        ensures numbering { self.new.numbering ≡ self.old.numbering }
+        ensures cells { self.new.cells ≡ self.old.cells }
+        ensures parts { self.new.parts ≡ self.old.parts }
         ensures expanded { self.new.expanded ≡ self.old.expanded }
         ensures first { IfSome result (λ number. (first : ReverseValue (ℕ × ℕ)) × (first.0.1 ≡ number) × (first.0.0 < length self.old.expanded.items)
             × IsPermutation (heap_items self.old.queue) (first ∷ heap_items self.new.queue)) }
@@ -119,7 +138,8 @@ impl<S: Key, D: Key> Worklist<S, D> {
         from: usize,
     ) -> Result<(), AllocError>
         requires { from ≤ length pairs.now }
-        ensures numbering { self.new.numbering ≡ self.old.numbering }
+        ensures cells { self.new.cells ≡ self.old.cells }
+        ensures parts { self.new.parts ≡ self.old.parts }
         ensures expanded { self.new.expanded ≡ self.old.expanded }
         ensures new { OnOk result ((n : ℕ) → from ≤ n → n < length pairs.now → IsQueued n (heap_items self.new.queue)) }
         ensures old { OnOk result ((n : ℕ) → IsQueued n (heap_items self.old.queue) → IsQueued n (heap_items self.new.queue)) }

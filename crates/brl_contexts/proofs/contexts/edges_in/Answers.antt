@@ -6,16 +6,15 @@ use Rattle.std.proofs.lemmas.Grind.{flat_map-append}
 use Rattle.std.proofs.lemmas.List.{get_or_default}
 use Rattle.std.proofs.lemmas.Option.{slice_get_within}
 use Rattle.brl_contexts.specs.Changes.{change_of}
-use Rattle.brl_contexts.specs.Contexts.{IsChangeAt, IsPlaceOfLast, IsWithinForms, changed, edge_in, no_edge}
+use Rattle.brl_contexts.specs.Contexts.{IsChangeAt, IsWithinForms, changed, edge_in, no_edge}
 use Rattle.brl_contexts.specs.declared.changes.Change.{Change}
 use Rattle.brl_contexts.specs.declared.contexts.ByContext.{ByContext}
 use Rattle.brl_contexts.specs.declared.forms.Forms.{Forms}
-use Rattle.brl_pairs.specs.Places.{ArePlacesIn}
-use Rattle.brl_pairs.proofs.InPlaces.{counting_on, no_places, place_added, place_left_out}
+use Rattle.brl_contexts.proofs.Found.{counting_on}
 use Rattle.brl_contexts.proofs.contexts.edges_in.Goals as goal
-use Rattle.brl_contexts.proofs.contexts.edges_in.Goals.{then-is_some, else-is_some, then-index+in_ok-place, else-index}
+use Rattle.brl_contexts.proofs.contexts.edges_in.Goals.{then-is_some, else-is_some, then-index+in_ok-push_edge, else-index}
 use Rattle.brl_pairs.specs.declared.edge.ListedEdge.{ListedEdge}
-use Rattle.brl_pairs.proofs.Lists.{inside, length_push, read_at, same_place, three_ways}
+use Rattle.brl_pairs.proofs.Lists.{inside, read_at, same_place, three_ways}
 
 -- ---- The change of a form
 
@@ -127,22 +126,6 @@ module _ (forms : Forms) (own : ByContext) (within : IsWithinForms forms own) (f
       ∙ ap (λ (x : ListedEdge). changed x (change_of own.changes.items form)) (get_or_default forms.edges.items form no_edge e less ∙ sym e_is)
       ∙ ap (changed e) is
 
--- the places with one form more
-placed : (old new : List ListedEdge) (places : List (Option ℕ)) (o : Option ℕ) → IsPlaceOfLast old new o → ArePlacesIn (length old) places → ArePlacesIn (length new) (places ++ o ∷ [])
-placed old new places None is h = subst (λ (n : ℕ). ArePlacesIn n (places ++ None ∷ [])) (sym is) (place_left_out (length old) places h)
-placed old new places (Some place) is h = subst (λ (n : ℕ). ArePlacesIn n (places ++ Some place ∷ [])) (sym is.1)
-    (subst (λ (p : ℕ). ArePlacesIn (length old + 1) (places ++ Some p ∷ [])) (sym is.0) (place_added (length old) places h))
-
-pub loop-form-init : goal.loop-form-init
-loop-form-init c = record {
-  edges = c.in_ok-edges.ensures.items;
-  passed = λ i d less. absurd (omega (arith, less));
-  ahead = λ i d low at. omega arith;
-  within = omega arith;
-  count = ap length c.in_ok-places.ensures.items;
-  places = subst (λ (l : List ListedEdge). ArePlacesIn (length l) c.in_ok-places.places.items) (sym c.in_ok-edges.ensures.items) (subst (ArePlacesIn 0) (sym c.in_ok-places.ensures.items) no_places);
-}
-
 pub loop-form-preserved : goal.loop-form-preserved
 loop-form-preserved c =
     let changes = c.args.own.now.changes.items in
@@ -155,9 +138,9 @@ loop-form-preserved c =
     let less : form < length c.args.forms.now.edges.items = (let test = c.loop-form-test.true in let end = c.len-form-end.ensures in omega (arith, test, end)) in
     record {
       edges = elim c.if-index.branch [
-        | then-index+in_ok-place w ↦
+        | then-index+in_ok-push_edge w ↦
             let edge = w.index-then-index.result.now in
-            ap (λ (v : _). v.items) w.edges-is ∙ w.in_ok-place.ensures.edges
+            ap (λ (v : _). v.items) w.edges-is ∙ w.in_ok-push_edge.ensures
             ∙ ap (λ (l : List ListedEdge). l ++ changed edge (option_map (λ (d : Change). d.next) change)) inv.edges
             ∙ ap (λ (l : List ListedEdge). flat_map (edge_in c.args.forms.now c.args.own.now) (range_with_len 0 form) ++ l)
             (sym (changed_where_open c.args.forms.now c.args.own.now c.requires form less c.index.result.now c.index.ensures c.index-in-loop-form.result.now c.index-in-loop-form.ensures
@@ -180,18 +163,8 @@ loop-form-preserved c =
         | else-is_some w ↦ subst (λ n. (i : ℕ) (d : Change) → n ≤ i → slice_get changes i ≡ Some d → form + 1 ≤ d.form) (sym w.next-is)
             (else_ahead changes asc next form inv.passed inv.ahead change is w.if-is_some.ensures)
       ];
-      count = ap length c.in_ok-push.ensures.items ∙ length_push c.loop-form.places.items c.if-index.place ∙ ap (λ (n : ℕ). n + 1) inv.count;
-      places = subst (ArePlacesIn (length c.if-index.edges.items)) (sym c.in_ok-push.ensures.items) (elim c.if-index.branch [
-        | then-index+in_ok-place w ↦ with_place w.push_edge.new.edges.items (ap (λ v. v.items) w.edges-is) w.in_ok-place.place w.place-is w.in_ok-place.ensures.place
-        | else-index w ↦ with_place c.loop-form.edges.items (ap (λ v. v.items) w.edges-is) None w.place-is refl
-      ]);
       within = elim c.if-is_some.branch [
         | then-is_some w ↦ (let same = w.next-is in let low = then_within changes asc next form inv.passed inv.ahead change is w.if-is_some.ensures in omega (arith, same, low))
         | else-is_some w ↦ (let same = w.next-is in let low = inv.within in omega (arith, same, low))
       ];
     }
-  where
-    with_place : (new : List ListedEdge) → c.if-index.edges.items ≡ new → (o : Option ℕ) → c.if-index.place ≡ o → IsPlaceOfLast c.loop-form.edges.items new o
-        → ArePlacesIn (length c.if-index.edges.items) (c.loop-form.places.items ++ c.if-index.place ∷ [])
-    with_place new edges_are o place_is is = subst (λ (l : List ListedEdge). ArePlacesIn (length l) (c.loop-form.places.items ++ c.if-index.place ∷ [])) (sym edges_are)
-        (subst (λ (p : Option ℕ). ArePlacesIn (length new) (c.loop-form.places.items ++ p ∷ [])) (sym place_is) (placed c.loop-form.edges.items new c.loop-form.places.items o is c.loop-form.invariant.places))

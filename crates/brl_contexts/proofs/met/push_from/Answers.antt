@@ -3,8 +3,7 @@ use Rattle.std.proofs.lemmas.List.{map-append}
 use Rattle.std.specs.List.{range_with_len}
 use Rattle.brl_contexts.specs.declared.met.Met.{Met}
 use Rattle.brl_contexts.specs.Met.{met_at}
-use Rattle.brl_pairs.proofs.InPlaces.{counting_on}
-use Rattle.brl_contexts.proofs.Found.{below_all}
+use Rattle.brl_contexts.proofs.Found.{below_all, counting_on}
 use Rattle.brl_contexts.proofs.met.push_from.Goals as goal
 
 pub overflow_add-form : goal.overflow_add-form

@@ -1,4 +1,4 @@
-use Rattle.std.proofs.Common.{◌∙◌, ◌<◌, ◌++◌, ◌∷◌, [], List, Some, ap, arith, cond, length, refl, subst, sym}
+use Rattle.std.proofs.Common.{◌≡◌, ◌∙◌, ◌<◌, ◌++◌, ◌∷◌, [], List, Some, ap, arith, cond, length, refl, slice_get, subst, sym}
 use Rattle.std.proofs.lemmas.Option.{slice_get_within}
 use Rattle.brl_contexts.specs.declared.carried.Carried.{Carried}
 use Rattle.brl_contexts.proofs.Kept.{added, carried_push}

@@ -4,6 +4,6 @@ use Rattle.brl_divergence.proofs.listing.run.Given as goal
 
 abbrev pub invariant-loop : goal.invariant-loop
 invariant-loop g l = record {
-  working : IsWorking g.M.Machine.behaviour g.M.Based.sharing l.finder l.expanded l.found l.settled;
+  working : IsWorking g.M.Machine.behaviour g.M.Parted.steps_of l.finder l.expanded l.parts l.found l.settled;
   fewer : steps_left l.finder.limit l.expanded l.settled + l.counter ≤ steps_left l.finder.limit l.initial.expanded l.initial.settled;
 }

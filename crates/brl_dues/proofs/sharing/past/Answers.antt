@@ -47,7 +47,7 @@ returns-then-is_empty c =
 pub returns : goal.returns
 returns c =
     let new : c.new_to-more.result.items ≡ new_to c.args.next.now.dues c.in-Some.left.items = c.new_to-more.ensures.new ∙ ap (λ (owed : List Due). new_to owed c.in-Some.left.items) c.as_slice-2.ensures.dues in
-    ap More (c.in_ok-in_order.ensures ∙ ap in_order new)
+    ap More (c.in_order.ensures ∙ ap in_order new)
     ∙ more-by c.args.table.now c.args.state.now c.args.next.now c.args.reads.now c.in-Some.left.items
     (sym (ap (option_map (λ (l : Vec Due). l.items)) c.in-Some.is) ∙ c.in_ok-left.ensures.left ∙ whole (goal.at.returns c).After-left_of_bars)
     (λ none.

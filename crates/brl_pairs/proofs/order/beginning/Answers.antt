@@ -1,4 +1,4 @@
-use Rattle.std.proofs.Common.{◌≡◌, ◌-◌, ◌++◌, ◌∷◌, ◌≤◌, ◌<◌, ℕ, List, [], length, map, nat_eq, sym, ◌∙◌, ap, subst, arith, true}
+use Rattle.std.proofs.Common.{◌≡◌, ◌-◌, ◌+◌, ◌++◌, ◌∷◌, ◌≤◌, ◌<◌, ℕ, List, [], length, map, nat_eq, sym, ◌∙◌, ap, subst, arith, true}
 use Rattle.std.specs.List.{starts_with}
 use Rattle.brl_pairs.specs.Order.{AreBeginnings, IsLastBeginning, all_at, at}
 use Rattle.brl_pairs.proofs.OrderLaws.{begins_next, chain_init, chain_step, next_before, same_length}

@@ -1,7 +1,7 @@
 //! Machines, their states, steps and pairs.
 use brl_cells::{Cell, Cells};
 use brl_dues::{Due, Dues, DuesState};
-use brl_pairs::{Advanced, Key, Machine, Pair, Step, advance};
+use brl_pairs::{Advanced, Machine, Pair, Step, advance};
 use brl_table::Table;
 use brl_testing::table_of;
 use brl_window::{TooWide, Window, WindowState};

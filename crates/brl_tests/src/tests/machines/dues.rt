@@ -2,7 +2,7 @@
 use brl_cells::write_dots;
 use brl_cert::{Cert, write_cert};
 use brl_dues::Dues;
-use brl_pairs::{Body, Key, Machine, Members, Seed, Step};
+use brl_pairs::{Body, Machine, Members, Seed, Step};
 use brl_rules::Table;
 use brl_states::DuesState;
 use brl_testing::table_of;

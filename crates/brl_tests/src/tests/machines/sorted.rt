@@ -6,8 +6,8 @@ ghost use Rattle.brl_pairs.specs.declared.sorted.SortedEdge.{SortedEdge as Sorte
 
 use brl_cells::{Cells, read_dots};
 use brl_pairs::{
-    KeptCells, ListedEdge, Seed, SortedEdge, TwoPlaces, earlier_splits, matches, places_below,
-    places_through, shared_with, sort_edges, splits_of, unshared_splits,
+    KeptCells, ListedEdge, Seed, SortedEdge, TwoPlaces, as_u32, by_number, earlier_splits, matches,
+    shared_with, sort_edges, splits_of, unshared_splits,
 };
 use brl_testing::{for_rows_of_2, for_rows_of_3};
 use std::alloc::Global;
@@ -57,13 +57,12 @@ const UNSHARED: &str = "\
 |1|
 ";
 
-/// What place each element has in another list, `-` where it has none, and the places in the order
-/// of the elements.
-const THROUGH: &str = "\
-1 - 0|1 0
-2 0 1|2 0 1
-- -|
-0|0
+/// Numbers below 10, and their places by ascending number; those of one number ascend.
+const BY_NUMBER: &str = "\
+2 0 1 0|1 3 2 0
+0 0 0|0 1 2
+5|0
+9 3 3 0 9|3 1 2 0 4
 |
 ";
 
@@ -135,14 +134,14 @@ fn sorted_edges(
     if !have_cells(kept, edges) {
         return Err(Fail::new("an edge has cells that aren't kept"));
     }
-    let order = places_below(alloc, edges.len())?;
-    Ok(sort_edges(alloc, kept.as_slice(), edges, order.as_slice())?)
+    Ok(sort_edges(alloc, kept, edges)?)
 }
 
 fn matches_text(alloc: Global, field: &str, lead: &str) -> Result<String, Fail> {
     let mut kept = KeptCells::new(alloc, Seed::of(b"cells"));
     let edges = edges_of_dots(alloc, &mut kept, field)?;
     let lead = cells_of_dots(alloc, lead)?;
+    kept.rank(alloc)?;
     let sorted = sorted_edges(alloc, &kept, edges.as_slice())?;
     let cells = kept.as_slice();
     let found = matches(alloc, cells, sorted.as_slice(), lead.as_slice())?;
@@ -161,6 +160,7 @@ fn splits_text(alloc: Global, field: &str, place: &str) -> Result<String, Fail> 
     if place >= edges.len() {
         return Err(Fail::new("there is no such edge"));
     }
+    kept.rank(alloc)?;
     let sorted = sorted_edges(alloc, &kept, edges.as_slice())?;
     let cells = kept.as_slice();
     let splits = splits_of(alloc, cells, sorted.as_slice(), edges.len())?;
@@ -189,11 +189,13 @@ fn unshared_text(alloc: Global, field: &str, others: &str) -> Result<String, Fai
     let mut kept = KeptCells::new(alloc, Seed::of(b"cells"));
     let edges = edges_of_dots(alloc, &mut kept, field)?;
     let others = edges_of_dots(alloc, &mut kept, others)?;
+    kept.rank(alloc)?;
     let sorted = sorted_edges(alloc, &kept, edges.as_slice())?;
     let others = sorted_edges(alloc, &kept, others.as_slice())?;
-    let shared = shared_with(alloc, kept.as_slice(), sorted.as_slice(), others.as_slice())?;
+    let shared = shared_with(alloc, &kept, sorted.as_slice(), others.as_slice())?;
+    let limit = as_u32(edges.len())?;
     let (edges, shared) = (sorted.as_slice(), shared.as_slice());
-    let splits = unshared_splits(alloc, kept.as_slice(), edges, shared)?;
+    let splits = unshared_splits(alloc, kept.as_slice(), edges, shared, limit)?;
     two_places_text(alloc, splits.as_slice())
 }
 
@@ -202,27 +204,28 @@ fn splits_that_another_state_does_not_have(rt: HostRuntime) -> Result<(), Fail> 
     for_rows_of_3(rt.alloc(), UNSHARED, unshared_text)
 }
 
-fn through_text(alloc: Global, field: &str) -> Result<String, Fail> {
-    let mut places = Vec::new(alloc);
+fn by_number_text(alloc: Global, field: &str) -> Result<String, Fail> {
+    let mut numbers = Vec::new(alloc);
+    let mut edges = Vec::new(alloc);
     for word in field.split(' ') {
-        match word {
-            "" => {}
-            "-" => places.push(None)?,
-            _ => places.push(Some(word.parse()?))?,
+        if !word.is_empty() {
+            let number: u32 = word.parse()?;
+            if number >= 10 {
+                return Err(Fail::new("the number is too high"));
+            }
+            edges.push(SortedEdge {
+                cells: 0,
+                next: 0,
+                place: as_u32(numbers.len())?,
+            })?;
+            numbers.push(number)?;
         }
     }
-    let order = places_below(alloc, places.len())?;
-    let mut text = String::new(alloc);
-    for place in places_through(alloc, order.as_slice(), places.as_slice())? {
-        if !text.is_empty() {
-            text.push(' ')?;
-        }
-        write!(text, "{place}")?;
-    }
-    Ok(text)
+    let sorted = by_number(alloc, edges.as_slice(), numbers.as_slice(), 10)?;
+    places_text(alloc, sorted.as_slice())
 }
 
 #[test]
-fn places_in_another_list(rt: HostRuntime) -> Result<(), Fail> {
-    for_rows_of_2(rt.alloc(), THROUGH, through_text)
+fn places_by_number(rt: HostRuntime) -> Result<(), Fail> {
+    for_rows_of_2(rt.alloc(), BY_NUMBER, by_number_text)
 }

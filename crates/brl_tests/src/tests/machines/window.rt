@@ -1,6 +1,6 @@
 //! Worked steps of window machines.
 use brl_cells::{Cell, Chars};
-use brl_pairs::{Key, Machine, Step};
+use brl_pairs::{Machine, Step};
 use brl_rules::{Class, Table};
 use brl_states::WindowState;
 use brl_testing::{for_rows_of_3, with_table};

@@ -6,5 +6,5 @@ use Rattle.brl_closure.proofs.check.kinds.sort_first_two.Goals as goal
 
 pub returns-then-not-has_three_alike-clause-first_two : goal.returns-then-not-has_three_alike-clause-first_two
 returns-then-not-has_three_alike-clause-first_two c =
-    let edges = edges_with c.args.cells.now c.args.steps.edges.items in
+    let edges = edges_with c.args.cells.now c.args.edges.items in
     subst (AreFirstTwo c.args.excused.now edges) (sym c.new.ensures.edges) (all_kept c.args.excused.now edges)

@@ -1,4 +1,4 @@
-use Rattle.brl_closure.proofs.InLists.{some_closed}
+use Rattle.brl_closure.proofs.Numbering.{some_closed}
 use Rattle.brl_closure.proofs.TwoRuns.{reached_closed}
 use Rattle.brl_closure.specs.Deciding.{reached_sets}
 use Rattle.brl_pairs.specs.Pairs.{numbered}

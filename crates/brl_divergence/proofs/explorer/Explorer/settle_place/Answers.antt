@@ -24,21 +24,21 @@ sorted_at g c =
     slice_get_read edges (length edges) c.args.state c.index.result.now refl c.requires.within.there c.index.ensures
 
 -- the steps of the state
-steps : (g : Over) (c : After-as_slice-sorted g) → AreStepsOf (g.M.Machine.behaviour c.args.self.now.finder.now.machine.now) c.args.found.now.trail.states c.args.state c.args.self.now.expanded.now.numbering.contexts.named.cells c.as_slice-sorted.result.now c.requires.within.rules.items
+steps : (g : Over) (c : After-as_slice-sorted g) → AreStepsOf (g.M.Machine.behaviour c.args.self.now.finder.now.machine.now) c.args.found.now.trail.states c.args.state c.args.self.now.expanded.now.cells c.as_slice-sorted.result.now c.requires.within.rules.items
 steps g c =
-    subst (λ (l : List SortedEdge). AreStepsOf (g.M.Machine.behaviour c.args.self.now.finder.now.machine.now) c.args.found.now.trail.states c.args.state c.args.self.now.expanded.now.numbering.contexts.named.cells l c.requires.within.rules.items)
+    subst (λ (l : List SortedEdge). AreStepsOf (g.M.Machine.behaviour c.args.self.now.finder.now.machine.now) c.args.found.now.trail.states c.args.state c.args.self.now.expanded.now.cells l c.requires.within.rules.items)
     (sym c.as_slice-sorted.ensures.value)
     (c.requires.sound.explored.ready.expanded.each c.args.state c.index.result.now c.requires.within.rules (sorted_at g c) c.requires.within.at)
 
 -- its splits
-splits : (g : Over) (c : After-as_slice-sorted g) → AreSplits c.args.self.now.expanded.now.numbering.contexts.named.cells c.as_slice-sorted.result.now c.args.splits.now
+splits : (g : Over) (c : After-as_slice-sorted g) → AreSplits c.args.self.now.expanded.now.cells c.as_slice-sorted.result.now c.args.splits.now
 splits g c =
-    subst (λ (l : List SortedEdge). AreSplits c.args.self.now.expanded.now.numbering.contexts.named.cells l c.args.splits.now) (sym c.as_slice-sorted.ensures.value) (c.requires.splits c.index.result.now (sorted_at g c))
+    subst (λ (l : List SortedEdge). AreSplits c.args.self.now.expanded.now.cells l c.args.splits.now) (sym c.as_slice-sorted.ensures.value) (c.requires.splits c.index.result.now (sorted_at g c))
 
 -- its edge with the place
 there : (g : Over) (c : After-as_slice-sorted g) → (x : SortedEdge) × Contains c.as_slice-sorted.result.now x × (x.place ≡ c.args.second)
 there g c =
-    place_there (g.M.Machine.behaviour c.args.self.now.finder.now.machine.now) c.args.found.now.trail.states c.args.state c.args.self.now.expanded.now.numbering.contexts.named.cells c.as_slice-sorted.result.now c.requires.within.rules.items (steps g c) c.args.second c.requires.within.within
+    place_there (g.M.Machine.behaviour c.args.self.now.finder.now.machine.now) c.args.found.now.trail.states c.args.state c.args.self.now.expanded.now.cells c.as_slice-sorted.result.now c.requires.within.rules.items (steps g c) c.args.second c.requires.within.within
 
 pub earlier_splits-requires-clause-ascending : goal.earlier_splits-requires-clause-ascending
 earlier_splits-requires-clause-ascending g c =
@@ -54,19 +54,19 @@ earlier_splits-requires-clause-there g c = there g (goal.at.earlier_splits-requi
 pub index-requires-2 : goal.index-requires-2
 index-requires-2 g c =
     let here = (goal.at.index-requires-2 g c).After-as_slice-sorted in
-    let own = own_edge c.args.self.now.expanded.now.numbering.contexts.named.cells c.as_slice-sorted.result.now c.args.splits.now (splits g here) c.args.second (there g here) in
+    let own = own_edge c.args.self.now.expanded.now.cells c.as_slice-sorted.result.now c.args.splits.now (splits g here) c.args.second (there g here) in
     omega (arith, own.0, c.args.splits.now.positions.ok.0)
 
 -- the edge at the position of the place
-own : (g : Over) (c : After-index-2 g) → AreSplits c.args.self.now.expanded.now.numbering.contexts.named.cells c.as_slice-sorted.result.now c.args.splits.now → (x : SortedEdge) × Contains c.as_slice-sorted.result.now x × (x.place ≡ c.args.second)
+own : (g : Over) (c : After-index-2 g) → AreSplits c.args.self.now.expanded.now.cells c.as_slice-sorted.result.now c.args.splits.now → (x : SortedEdge) × Contains c.as_slice-sorted.result.now x × (x.place ≡ c.args.second)
     → (y : SortedEdge) × (slice_get c.as_slice-sorted.result.now c.index-2.result.now ≡ Some y) × (y.place ≡ c.args.second)
 own g c are x =
     let positions = c.args.splits.now.positions.items in
-    let edge = own_edge c.args.self.now.expanded.now.numbering.contexts.named.cells c.as_slice-sorted.result.now c.args.splits.now are c.args.second x in
+    let edge = own_edge c.args.self.now.expanded.now.cells c.as_slice-sorted.result.now c.args.splits.now are c.args.second x in
     edge.1 c.index-2.result.now (slice_get_read positions (length positions) c.args.second c.index-2.result.now refl edge.0 c.index-2.ensures)
 
 -- it is what is read
-own_is : (g : Over) (c : After-index-2 g) → AreSplits c.args.self.now.expanded.now.numbering.contexts.named.cells c.as_slice-sorted.result.now c.args.splits.now → (x : SortedEdge) × Contains c.as_slice-sorted.result.now x × (x.place ≡ c.args.second)
+own_is : (g : Over) (c : After-index-2 g) → AreSplits c.args.self.now.expanded.now.cells c.as_slice-sorted.result.now c.args.splits.now → (x : SortedEdge) × Contains c.as_slice-sorted.result.now x × (x.place ≡ c.args.second)
     → (slice_get c.as_slice-sorted.result.now c.index-2.result.now ≡ Some (edge_at c.as_slice-sorted.result.now c.index-2.result.now)) × ((edge_at c.as_slice-sorted.result.now c.index-2.result.now).place ≡ c.args.second)
 own_is g c are x =
     let slice = c.as_slice-sorted.result.now in
@@ -155,9 +155,9 @@ returns-clause-settled g c =
     let slice = c.as_slice-sorted.result.now in
     let items = c.as_slice-first-items.result.now in
     let found = c.in_ok-earlier.earlier.items in
-    let kept = subst (λ (xs : List g.row.M-State.Denot). AreStepsOf m xs a.state a.self.now.expanded.now.numbering.contexts.named.cells slice c.requires.within.rules.items) (sym c.loop-first.invariant.keeps.states)
+    let kept = subst (λ (xs : List g.row.M-State.Denot). AreStepsOf m xs a.state a.self.now.expanded.now.cells slice c.requires.within.rules.items) (sym c.loop-first.invariant.keeps.states)
     (steps g (goal.at.returns-clause-settled g c).After-as_slice-sorted) in
-    settled_place m it a.state a.self.now.expanded.now.numbering.contexts.named.cells slice c.requires.within.rules.items kept a.second found
+    settled_place m it a.state a.self.now.expanded.now.cells slice c.requires.within.rules.items kept a.second found
     (subst (λ (cells : List (List ℕ)). (y : SortedEdge) × Contains slice y × (y.place ≡ a.second) × AreEarlier cells slice (cells_of cells y) a.second found) c.as_slice-cells.ensures.members c.in_ok-earlier.ensures)
     (λ k x at. (
     let x_at : slice_get items k ≡ Some x = ap (λ (l : List SortedEdge). slice_get l k) c.as_slice-first-items.ensures.value ∙ at in

@@ -22,13 +22,13 @@ pub explore-requires-clause-edges : goal.explore-requires-clause-edges
 explore-requires-clause-edges g c = (c.rules_of-rules.result, c.rules_of-rules.ensures c.args.found.now.trail.states c.requires.sound.explored.ready.expanded)
 
 -- the two edges with their rules
-two : (g : Over) (c : After-rules_of-rules g) → AreTwoEdges (g.M.Machine.behaviour c.args.self.now.finder.now.machine.now) c.args.found.now.trail.states c.args.self.now.expanded.now.numbering.contexts.named.cells c.args.state c.args.first.now c.args.second.now c.rules_of-rules.result
+two : (g : Over) (c : After-rules_of-rules g) → AreTwoEdges (g.M.Machine.behaviour c.args.self.now.finder.now.machine.now) c.args.found.now.trail.states c.args.self.now.expanded.now.cells c.args.state c.args.first.now c.args.second.now c.rules_of-rules.result
 two g c = c.rules_of-rules.ensures c.args.found.now.trail.states c.requires.sound.explored.ready.expanded
 
 pub returns-then-contains_key-clause-settled : goal.returns-then-contains_key-clause-settled
 returns-then-contains_key-clause-settled g c =
     let a = c.args in
-    settled_by_list (g.M.Machine.behaviour a.self.now.finder.now.machine.now) a.found.now a.self.now.expanded.now.numbering.contexts.named.cells a.state a.first.now a.second.now c.rules_of-rules.result
+    settled_by_list (g.M.Machine.behaviour a.self.now.finder.now.machine.now) a.found.now a.self.now.expanded.now.cells a.state a.first.now a.second.now c.rules_of-rules.result
     (two g (goal.at.returns-then-contains_key-clause-settled g c).After-rules_of-rules)
     (found_listed a.found.now.list c.rules_of-rules.result (sym c.contains_key.ensures ∙ c.if-contains_key.true))
 
@@ -42,8 +42,8 @@ list-requires-clause-divergence g c =
     let stopped = rw end.field-0-0-is at failed in
     let texts = c.in_ok-texts-in-Err-Fault-BothEnd.texts in
     record {
-      in_order = rules_ascend m a.found.now.trail.states a.self.now.expanded.now.numbering.contexts.named.cells a.state a.first.now a.second.now c.rules_of-rules.result edges c.requires.sound.explored.ready.active.laws;
-      texts = texts_diverge g.M.Machine.behaviour a.self.now.finder.now a.self.now.expanded.now a.found.now.trail c.explore.new.trail a.self.now.expanded.now.numbering.contexts.named.cells a.state a.first.now a.second.now c.rules_of-rules.result
+      in_order = rules_ascend m a.found.now.trail.states a.self.now.expanded.now.cells a.state a.first.now a.second.now c.rules_of-rules.result edges c.requires.sound.explored.ready.active.laws;
+      texts = texts_diverge g.M.Machine.behaviour a.self.now.finder.now a.self.now.expanded.now a.found.now.trail c.explore.new.trail a.self.now.expanded.now.cells a.state a.first.now a.second.now c.rules_of-rules.result
           c.requires.sound.explored edges c.explore.ensures.adds end.number stopped.1 texts.left.items texts.right.items c.in_ok-texts-in-Err-Fault-BothEnd.ensures.texts;
     }
 
@@ -103,7 +103,7 @@ returns-else-len-self-clause-settled g c =
     let a = c.args in
     let m = g.M.Machine.behaviour a.self.now.finder.now.machine.now in
     let states = c.take_back.ensures.states ∙ c.explore.ensures.adds.states in
-    settled_by_list m (record { trail = c.take_back.new.trail; list = c.list.new.list; known = c.texts_of.new.known }) a.self.now.expanded.now.numbering.contexts.named.cells a.state a.first.now a.second.now c.rules_of-rules.result
-    (subst (λ (xs : List g.row.M-State.Denot). AreTwoEdges m xs a.self.now.expanded.now.numbering.contexts.named.cells a.state a.first.now a.second.now c.rules_of-rules.result) (sym states)
+    settled_by_list m (record { trail = c.take_back.new.trail; list = c.list.new.list; known = c.texts_of.new.known }) a.self.now.expanded.now.cells a.state a.first.now a.second.now c.rules_of-rules.result
+    (subst (λ (xs : List g.row.M-State.Denot). AreTwoEdges m xs a.self.now.expanded.now.cells a.state a.first.now a.second.now c.rules_of-rules.result) (sym states)
     (two g (goal.at.returns-else-len-self-clause-settled g c).After-rules_of-rules))
     c.in_ok-list-in-Err-Fault-BothEnd.ensures.there

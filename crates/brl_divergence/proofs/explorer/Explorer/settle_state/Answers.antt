@@ -27,9 +27,9 @@ rules_at g c =
     slice_get_read rules (length rules) c.args.state c.index-2.result.now refl (omega (arith, c.requires.within, c.requires.sound.explored.ready.expanded.many)) c.index-2.ensures
 
 -- the steps of the state
-steps : (g : Over) (c : After-len-count g) → AreStepsOf (g.M.Machine.behaviour c.args.self.now.finder.now.machine.now) c.args.found.now.trail.states c.args.state c.args.self.now.expanded.now.numbering.contexts.named.cells c.as_slice-sorted.result.now c.index-2.result.now.items
+steps : (g : Over) (c : After-len-count g) → AreStepsOf (g.M.Machine.behaviour c.args.self.now.finder.now.machine.now) c.args.found.now.trail.states c.args.state c.args.self.now.expanded.now.cells c.as_slice-sorted.result.now c.index-2.result.now.items
 steps g c =
-    subst (λ (l : List SortedEdge). AreStepsOf (g.M.Machine.behaviour c.args.self.now.finder.now.machine.now) c.args.found.now.trail.states c.args.state c.args.self.now.expanded.now.numbering.contexts.named.cells l c.index-2.result.now.items)
+    subst (λ (l : List SortedEdge). AreStepsOf (g.M.Machine.behaviour c.args.self.now.finder.now.machine.now) c.args.found.now.trail.states c.args.state c.args.self.now.expanded.now.cells l c.index-2.result.now.items)
     (sym c.as_slice-sorted.ensures.value)
     (c.requires.sound.explored.ready.expanded.each c.args.state c.index.result.now c.index-2.result.now (sorted_at g c) (rules_at g c))
 
@@ -62,7 +62,7 @@ splits_of-requires-clause-ascending g c =
 pub splits_of-requires-clause-places : goal.splits_of-requires-clause-places
 splits_of-requires-clause-places g c x there =
     let a = c.args in
-    let less = edge_within (g.M.Machine.behaviour a.self.now.finder.now.machine.now) a.found.now.trail.states a.state a.self.now.expanded.now.numbering.contexts.named.cells c.as_slice-sorted.result.now c.index-2.result.now.items
+    let less = edge_within (g.M.Machine.behaviour a.self.now.finder.now.machine.now) a.found.now.trail.states a.state a.self.now.expanded.now.cells c.as_slice-sorted.result.now c.index-2.result.now.items
     (steps g (goal.at.splits_of-requires-clause-places g c).After-len-count) x there in
     omega (arith, less, c.len-count.ensures, c.index-2.result.now.ok.0)
 
@@ -89,7 +89,7 @@ returns-clause-settled g c i j less x y x_taken y_taken =
     let it = c.loop-second.found in
     let slice = c.as_slice-sorted.result.now in
     let rules = c.index-2.result.now.items in
-    let kept = subst (λ (xs : List g.row.M-State.Denot). AreStepsOf m xs a.state a.self.now.expanded.now.numbering.contexts.named.cells slice rules) (sym c.loop-second.invariant.keeps.states)
+    let kept = subst (λ (xs : List g.row.M-State.Denot). AreStepsOf m xs a.state a.self.now.expanded.now.cells slice rules) (sym c.loop-second.invariant.keeps.states)
     (steps g (goal.at.returns-clause-settled g c).After-len-count) in
-    let within = step_within m it.trail.states a.state a.self.now.expanded.now.numbering.contexts.named.cells slice rules kept j y y_taken in
+    let within = step_within m it.trail.states a.state a.self.now.expanded.now.cells slice rules kept j y y_taken in
     c.loop-second.invariant.settled i j less (omega (arith, within, c.len-count.ensures, c.index-2.result.now.ok.0)) x y x_taken y_taken

@@ -1,14 +1,22 @@
-use Rattle.std.proofs.Common.{◌≡◌, ◌∙◌, slice_get, inl, inr, ap, sym, subst, arith}
+use Rattle.std.proofs.Common.{◌≡◌, ◌<◌, ◌∙◌, ℕ, List, Some, length, slice_get, inl, inr, ap, sym, subst, arith}
 use Rattle.std.proofs.lemmas.Bool.{cases_eq}
 use Rattle.std.proofs.lemmas.List.{length-map}
 use Rattle.std.proofs.lemmas.Option.{slice_get_within}
 use Rattle.brl_pairs.specs.Listed.{edge_of, edges_with}
 use Rattle.brl_pairs.specs.Shared.{AreUnsharedSplits}
+use Rattle.brl_pairs.specs.declared.shared.TwoPlaces.{TwoPlaces}
 use Rattle.brl_pairs.proofs.Lists.{same_place}
 use Rattle.brl_closure.proofs.Additions.{advances_refl, advances_trans}
 use Rattle.brl_closure.proofs.Edges.{edges_more}
 use Rattle.brl_closure.proofs.SharedSplits.{IsFollowedSplit, all_followed, followed_split_more, known_more, places_within, two_at, two_is_at}
 use Rattle.brl_closure.proofs.search.finder.Finder.find_new_splits.Goals as goal
+
+pub unshared_splits-requires-clause-places : goal.unshared_splits-requires-clause-places
+unshared_splits-requires-clause-places g c = λ x there.
+    let own = c.requires.sorted.by_numbers.only x there in
+    let edges = edges_with c.args.state.now.cells.now c.args.state.now.edges.now in
+    let inside : x.place < length edges = slice_get_within edges x.place own.edge own.at in
+    omega (arith, inside, c.in_ok-limit.ensures, length-map c.args.state.now.edges.now (edge_of c.args.state.now.cells.now))
 
 pub loop-split-init : goal.loop-split-init
 loop-split-init g c = record {

@@ -6,7 +6,7 @@ use Rattle.brl_closure.specs.Trail.{Advances, HasTwoEnds}
 use Rattle.brl_closure.proofs.Growing.{stays_push, stays_refl}
 use Rattle.brl_closure.proofs.There.{absent_differ, added_absent, nothing_inserted, pair_inserted}
 use Rattle.brl_closure.proofs.Additions.{advances_refl, pair_pushed, pair_active}
-use Rattle.brl_closure.proofs.Adding.{adds_none}
+use Rattle.brl_closure.proofs.Adding.{adds_none, adds_one, adds_pair}
 use Rattle.brl_closure.proofs.search.finder.Finder.find_pair.Goals as goal
 use Rattle.brl_pairs.proofs.Lists.{length_push, push_last}
 

@@ -2,7 +2,7 @@ use Rattle.std.proofs.Common.{◌≡◌, ◌++◌, length, reverse, List, sym, a
 use Rattle.brl_pairs.specs.declared.step.Step.{Step}
 use Rattle.brl_closure.specs.KnownSteps.{AreKnown}
 use Rattle.brl_closure.specs.Trail.{TakesStep}
-use Rattle.brl_closure.specs.Path.{IsPlaceTo, LeadsTo}
+use Rattle.brl_closure.specs.Path.{HasStepAt, IsPlaceTo, LeadsTo}
 use Rattle.brl_closure.proofs.Path.{origin_of, text_back}
 use Rattle.brl_pairs.proofs.Lists.{read_at, same_place}
 use Rattle.brl_closure.proofs.search.finder.Finder.text_to.Goals as goal

@@ -2,9 +2,8 @@ use Rattle.std.proofs.Common.{◌≡◌, ◌∙◌, ◌≤◌, ℕ, All, List, l
 use Rattle.std.specs.BinaryHeap.{heap_items, heap_len}
 use Rattle.std.specs.Global.{Vec}
 use Rattle.brl_pairs.specs.declared.sorted.SortedEdge.{SortedEdge}
+use Rattle.brl_parts.specs.Parts.{AreKeptParts, PartsView}
 use Rattle.brl_closure.specs.Edges.{AreKeptOrNone}
-use Rattle.brl_closure.specs.Numbering.{IsNumbering}
-use Rattle.brl_closure.specs.declared.numbering.Numbering.{Numbering}
 use Rattle.brl_closure.specs.Worklist.{IsItemOf, IsQueued}
 use Rattle.brl_closure.proofs.Queue.{item_popped, items_more}
 use Rattle.brl_closure.proofs.Steps.{fewer_walked, working_walked}
@@ -17,12 +16,14 @@ walk_queued-requires-clause-there g c =
 pub walk_queued-requires-clause-kept : goal.walk_queued-requires-clause-kept
 walk_queued-requires-clause-kept g c =
     let m = g.M.Machine.behaviour c.args.self.now.machine.now in
-    subst (λ (own : List (List ℕ)). AreKeptOrNone m c.args.trail.now.states own c.pop_ready.new.self.expanded.items) (ap (λ (x : Numbering g.row.M-State.Denot g.row.M-More.Denot). x.contexts.named.cells) (sym c.pop_ready.ensures.numbering))
-    (subst (λ (v : Vec (Vec SortedEdge)). AreKeptOrNone m c.args.trail.now.states c.args.worklist.now.numbering.contexts.named.cells v.items) (sym c.pop_ready.ensures.expanded) c.requires.working.edges)
+    subst (λ (own : List (List ℕ)). AreKeptOrNone m c.args.trail.now.states own c.pop_ready.new.self.expanded.items) (sym c.pop_ready.ensures.cells)
+    (subst (λ (v : Vec (Vec SortedEdge)). AreKeptOrNone m c.args.trail.now.states c.args.worklist.now.cells v.items) (sym c.pop_ready.ensures.expanded) c.requires.working.edges)
 
-pub walk_queued-requires-clause-numbering : goal.walk_queued-requires-clause-numbering
-walk_queued-requires-clause-numbering g c =
-    subst (IsNumbering (g.M.Machine.behaviour c.args.self.now.machine.now) (g.M.Based.sharing c.args.self.now.machine.now) c.args.trail.now.states) (sym c.pop_ready.ensures.numbering) c.requires.working.numbering
+pub walk_queued-requires-clause-parts : goal.walk_queued-requires-clause-parts
+walk_queued-requires-clause-parts g c =
+    let steps_of = g.M.Parted.steps_of c.args.self.now.machine.now in
+    subst (λ (own : List (List ℕ)). AreKeptParts steps_of c.args.trail.now.states own c.pop_ready.new.self.parts) (sym c.pop_ready.ensures.cells)
+    (subst (λ (p : PartsView g.row.M-Part.Denot). AreKeptParts steps_of c.args.trail.now.states c.args.worklist.now.cells p) (sym c.pop_ready.ensures.parts) c.requires.working.parts)
 
 pub walk_queued-requires-clause-pair : goal.walk_queued-requires-clause-pair
 walk_queued-requires-clause-pair g c =
@@ -34,7 +35,7 @@ walk_queued-requires-clause-pair g c =
 pub returns-clause-step : goal.returns-clause-step
 returns-clause-step g c =
     let m = g.M.Machine.behaviour c.args.self.now.machine.now in
-    let h = g.M.Based.sharing c.args.self.now.machine.now in
+    let steps_of = g.M.Parted.steps_of c.args.self.now.machine.now in
     let first = c.in-Some.ensures.first in
     let advances = c.in_ok-walk_queued.ensures.advances in
     let old = c.args.worklist.now in
@@ -44,20 +45,21 @@ returns-clause-step g c =
     let states = c.walk_queued.new.trail.states in
     let pairs = c.walk_queued.new.trail.pairs in
     let has = c.in_ok-walk_queued.ensures.work in
-    let cells = ap (λ (x : Numbering g.row.M-State.Denot g.row.M-More.Denot). x.contexts.named.cells) (sym c.enqueue_from.ensures.numbering) in
+    let cells = sym c.enqueue_from.ensures.cells in
     let left = item_popped c.args.trail.now.pairs first.0 (heap_items old.queue) (heap_items popped.queue) first.3 c.requires.working.items in
     let count : length new.expanded.items ≡ length old.expanded.items =
     ap (λ (v : Vec (Vec SortedEdge)). length v.items) c.enqueue_from.ensures.expanded ∙ has.count ∙ ap (λ (v : Vec (Vec SortedEdge)). length v.items) c.pop_ready.ensures.expanded in
     record {
       working =
-          working_walked g.M.Machine.behaviour g.M.Based.sharing c.args.self.now c.args.trail.now c.walk_queued.new.trail old new c.requires.working advances
+          working_walked g.M.Machine.behaviour g.M.Parted.steps_of c.args.self.now c.args.trail.now c.walk_queued.new.trail old new c.requires.working advances
           (λ n low high. c.in_ok-enqueue_from.ensures.new n (omega (arith, low, c.len-known.ensures)) high)
           (c.in_ok-enqueue_from.ensures.items (subst (λ q. All (IsItemOf pairs) (heap_items q)) (sym has.queue) (items_more c.args.trail.now.pairs pairs advances.1.pairs (heap_items popped.queue) left.1)))
           c.in-Some.number first.0 (heap_items popped.queue) first.1 first.3 c.in_ok-walk_queued.ensures.walked count
           (subst (λ (own : List (List ℕ)). AreKeptOrNone m states own new.expanded.items) cells
-          (subst (λ (v : Vec (Vec SortedEdge)). AreKeptOrNone m states walked.numbering.contexts.named.cells v.items) (sym c.enqueue_from.ensures.expanded) has.edges))
+          (subst (λ (v : Vec (Vec SortedEdge)). AreKeptOrNone m states walked.cells v.items) (sym c.enqueue_from.ensures.expanded) has.edges))
           (λ n h. c.in_ok-enqueue_from.ensures.old n (subst (λ q. IsQueued n (heap_items q)) (sym has.queue) h))
-          (subst (IsNumbering m h states) (sym c.enqueue_from.ensures.numbering) has.numbering);
+          (subst (λ (own : List (List ℕ)). AreKeptParts steps_of states own new.parts) cells
+          (subst (λ (p : PartsView g.row.M-Part.Denot). AreKeptParts steps_of states walked.cells p) (sym c.enqueue_from.ensures.parts) has.parts));
       extends = advances.1;
       fewer = fewer_walked c.args.self.now.limit (length old.expanded.items) (length new.expanded.items) (length c.args.trail.now.pairs) (length pairs)
           (heap_len old.queue) (heap_len popped.queue) (heap_len new.queue)

@@ -18,7 +18,8 @@ loop-number-preserved g c =
     let same : IsPermutation (record { 0 = (pair.behind, c.loop-number.number) } ∷ before) after = c.in_ok-push.ensures.permutation in
     let now = c.loop-number.invariant in
     record {
-      numbering = now.numbering;
+      cells = now.cells;
+      parts = now.parts;
       expanded = now.expanded;
       new = λ n low high. elim (cases_eq n c.loop-number.number) [
         | inl here ↦ subst (λ (k : ℕ). IsQueued k after) (sym here) (queued_new pair.behind c.loop-number.number before after same)

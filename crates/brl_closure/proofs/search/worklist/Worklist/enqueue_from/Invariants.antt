@@ -5,7 +5,8 @@ use Rattle.brl_closure.proofs.search.worklist.Worklist.enqueue_from.Given as goa
 
 abbrev pub invariant-loop-number : goal.invariant-loop-number
 invariant-loop-number g l = record {
-  numbering : l.self.numbering ≡ l.fn.self.numbering;
+  cells : l.self.cells ≡ l.fn.self.cells;
+  parts : l.self.parts ≡ l.fn.self.parts;
   expanded : l.self.expanded ≡ l.fn.self.expanded;
   new : (n : ℕ) → l.from ≤ n → n < l.number → IsQueued n (heap_items l.self.queue);
   old : (n : ℕ) → IsQueued n (heap_items l.fn.self.queue) → IsQueued n (heap_items l.self.queue);

@@ -1,5 +1,0 @@
--- Internal. A machine as a whole, as contracts see it.
-
--- the machine itself
-pub record WholeView (M : Type 0) : Type 0 where
-  pub machine : M
